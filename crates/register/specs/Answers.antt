@@ -40,10 +40,10 @@ transfer-answer h k from to n =
     (refuses (ltb (h .amount k from) n) HoldsLess
     (refuses (not (eqb from to) && ltb limit (h .amount k to + n)) OverLimit (Ok tt))))
 
--- the answer r, and h′ as the call leaves it: changed where it was answered, as before where it was refused
-pub record Changed (h : Holdings) (answer : Result Unit Refusal) (done : Holdings) (r : Result Unit Refusal) (h′ : Holdings) : Type 0 where
+-- what a call promises: the answer r, and what it leaves, which is done where it was accepted and before where it was refused
+pub record Changed {A E X : Type 0} (before : X) (answer : Result A E) (done : X) (r : Result A E) (left : X) : Type 0 where
   pub answered : r ≡ answer
-  pub after : h′ ≡ cond (isOk answer) done h
+  pub after : left ≡ cond (isOk answer) done before
 
 -- what put promises
 abbrev pub Put : Holdings → ℕ → ℕ → ℕ → Result Unit Refusal → Holdings → Type 0

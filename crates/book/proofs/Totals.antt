@@ -1,0 +1,41 @@
+-- Sums and tests over the numbers below a number.
+use mathlib.Core.Path.{_≡_, refl, sym, _∙_, ap}
+use mathlib.Core.Bool.{Bool, true, false, _&&_}
+use Prim.Native.Nat.{ℕ, zero, suc, _+_, _*_, _≤_, _<_}
+use native.Mathlib.Nat.{suc-mul}
+use native.Mathlib.Numerals.{add-one}
+use native.Mathlib.Omega.{arith}
+use mathlib.Core.Logic.{inl, inr, ⊎-elim}
+use Rattle.std.proofs.shelf.Tests.{and-left, and-right, cases-eq}
+use lib.Dec.{leb}
+use Rattle.std.proofs.shelf.Tests.{lt-leb}
+use Rattle.register.specs.Holdings.{Holdings, sumBelow, total, limit}
+use Rattle.book.specs.Opening.{all-below, sums-within}
+
+pub sum-bound : (f : ℕ → ℕ) (m : ℕ) → ((i : ℕ) → f i ≤ m) → (n : ℕ) → sumBelow n f ≤ n * m
+sum-bound f m each zero = omega arith
+sum-bound f m each (suc n) = omega (arith, sum-bound f m each n, each n, suc-mul n m)
+
+pub sum-more : (f : ℕ → ℕ) (n : ℕ) → sumBelow (n + 1) f ≡ sumBelow n f + f n
+sum-more f n = rw add-one
+
+pub all-more : (f : ℕ → Bool) (n : ℕ) → all-below (n + 1) f ≡ (all-below n f && f n)
+all-more f n = rw add-one
+
+pub all-fails : (f : ℕ → Bool) (n k : ℕ) → k < n → f k ≡ false → all-below n f ≡ false
+all-fails f zero k h e = absurd (omega arith)
+all-fails f (suc n) k h e =
+    ⊎-elim (λ (q : k ≡ n). and-right (all-below n f) (f n) (ap f (sym q) ∙ e))
+    (λ (q : k ≡ n → ⊥). and-left (all-below n f) (f n) (all-fails f n k (omega arith) e))
+    (cases-eq k n)
+
+-- one kind over the limit
+pub sums-over : (h : Holdings) (k : ℕ) → k < h .kinds → limit < total h k → sums-within h ≡ false
+sums-over h k known over = all-fails (λ j. leb (total h j) limit) (h .kinds) k known (lt-leb (total h k) limit over)
+
+pub term-within : (f : ℕ → ℕ) (n i : ℕ) → i < n → f i ≤ sumBelow n f
+term-within f zero i h = absurd (omega arith)
+term-within f (suc n) i h =
+    ⊎-elim (λ (q : i ≡ n). let e = ap f q in omega arith)
+    (λ (q : i ≡ n → ⊥). omega (arith, term-within f n i (omega arith)))
+    (cases-eq i n)

@@ -1,0 +1,24 @@
+use Prim.Native.Nat.{_≤_}
+use native.Mathlib.Omega.{arith}
+use borrow.Author.Needs.{needs}
+use Rattle.register.specs.Holdings.{sumBelow}
+use Rattle.book.proofs.Totals.{sum-bound, sum-more}
+use Rattle.book.proofs.sums.sum.Needs as need
+
+pub add-sum : need.add-sum
+add-sum g c =
+    let few = g .R·Register·met .«few_accounts» (c .args .register .now) in
+    let each = g .R·Register·met .bounded (c .args .register .now) (c .args .kind) in
+    let bound = sum-bound (g .R·Register .shows (c .args .register .now) .amount (c .args .kind)) 1000000000000000 each (c .loop-account .account) in
+    let last = each (c .loop-account .account) in
+    omega arith
+
+pub loop-account-again : need.loop-account-again
+loop-account-again g c = search (needs, sum-more)
+
+pub returns : need.returns
+returns g c =
+    let few = g .R·Register·met .«few_accounts» (c .args .register .now) in
+    let each = g .R·Register·met .bounded (c .args .register .now) (c .args .kind) in
+    let bound = sum-bound (g .R·Register .shows (c .args .register .now) .amount (c .args .kind)) 1000000000000000 each (c .loop-account .account) in
+    record { value = search needs; bound = omega arith }

@@ -1,0 +1,5 @@
+pub mod State
+pub mod Questions
+pub mod Opening
+pub mod Paying
+pub mod Books

@@ -1,0 +1,47 @@
+-- The opening of a book.
+use mathlib.Core.List.{List, [], _∷_}
+use mathlib.Core.Bool.{Bool, true, false, cond, _&&_}
+use Prim.Native.Nat.{ℕ, zero, suc}
+use lib.Dec.{eqb, leb}
+use Rattle.register.specs.Holdings.{Holdings, limit, total}
+use Rattle.fault.specs.declared.fault.Fault.the-variants.{AccountCount, KindCount, OpeningSum, FirstDay}
+use Rattle.book.specs.State.{State}
+use Rattle.book.specs.Questions.{Question, ask, first-no}
+
+-- what a book opens on
+pub record Opening : Type 0 where
+  pub securities : Holdings
+  pub cash : Holdings
+  pub day : ℕ
+
+abbrev pub opens-on : Holdings → Holdings → ℕ → Opening
+opens-on securities cash day = record { securities = securities; cash = cash; day = day }
+
+-- f holds of every number below n
+abbrev pub all-below : ℕ → (ℕ → Bool) → Bool
+all-below zero f = true
+all-below (suc n) f = all-below n f && f n
+
+-- no kind's sum over all accounts passes 10^15
+abbrev pub sums-within : Holdings → Bool
+sums-within h = all-below (h .kinds) (λ k. leb (total h k) limit)
+
+-- the last day on which a book can open
+abbrev pub last-day : ℕ
+last-day = 60000
+
+abbrev pub opening-questions : Opening → List Question
+opening-questions o =
+    ask (eqb (o .securities .accounts) (o .cash .accounts) && (leb 2 (o .securities .accounts) && leb (o .securities .accounts) 32)) AccountCount
+    ∷ (ask (leb 1 (o .securities .kinds) && (leb (o .securities .kinds) 16 && eqb (o .cash .kinds) 2)) KindCount
+    ∷ (ask (sums-within (o .securities) && sums-within (o .cash)) OpeningSum
+    ∷ (ask (leb (o .day) last-day) FirstDay
+    ∷ [])))
+
+abbrev pub opened : Opening → State
+opened o = record {
+  failed = first-no (opening-questions o);
+  day = o .day;
+  securities = o .securities;
+  cash = o .cash;
+}

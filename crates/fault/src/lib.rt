@@ -1,0 +1,5 @@
+// Faults: every reason for which a call is refused, with its number.
+pub mod fault;
+
+pub use fault::Fault;
+pub use fault::FaultFromRefusal;

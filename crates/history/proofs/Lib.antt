@@ -1,0 +1,4 @@
+pub mod Answering
+pub mod Booking
+pub mod Histories
+pub mod Lawfulness

@@ -1,0 +1,4 @@
+pub mod Step
+pub mod History
+pub mod Statement
+pub mod Law

@@ -1,0 +1,44 @@
+-- One call by the rules: what is asked, what is answered, and the state after it.
+use mathlib.Core.Path.{_≡_}
+use mathlib.Core.List.{List}
+use mathlib.Core.Bool.{Bool, cond}
+use Rattle.std.specs.Results.{isOk}
+use Rattle.std.specs.declared.result.Result.{Result}
+use Rattle.fault.specs.declared.fault.Fault.{Fault}
+use Rattle.book.specs.State.{State}
+use Rattle.book.specs.Questions.{Question, answer-to}
+use Rattle.book.specs.Paying.{pay-in-questions, pay-out-questions, tell-questions, paid-in, paid-out, amount-at}
+use Rattle.history.specs.declared.call.Call.{Call}
+use Rattle.history.specs.declared.call.Call.the-variants.{PayIn, PayOut, Tell}
+use Rattle.history.specs.declared.call.Answer.{Answer}
+use Rattle.history.specs.declared.call.Answer.the-variants.{Done, Amount}
+
+abbrev pub questions : State → Call → List Question
+questions s (PayIn p n) = pay-in-questions s p n
+questions s (PayOut p n) = pay-out-questions s p n
+questions s (Tell p) = tell-questions s p
+
+-- what an accepted call answers
+abbrev pub result : State → Call → Answer
+result s (PayIn p n) = Done
+result s (PayOut p n) = Done
+result s (Tell p) = Amount (amount-at s p)
+
+-- the state after an accepted call
+abbrev pub effect : State → Call → State
+effect s (PayIn p n) = paid-in s p n
+effect s (PayOut p n) = paid-out s p n
+effect s (Tell p) = s
+
+-- the answer of a call
+abbrev pub answer : State → Call → Result Answer Fault
+answer s c = answer-to s (questions s c) (result s c)
+
+-- the state after a call
+abbrev pub after : State → Call → State
+after s c = cond (isOk (answer s c)) (effect s c) s
+
+-- answered by the rules
+pub record Stepped (s : State) (c : Call) (r : Result Answer Fault) (t : State) : Type 0 where
+  pub answered : r ≡ answer s c
+  pub becomes : t ≡ after s c

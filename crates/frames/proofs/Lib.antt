@@ -1,3 +1,4 @@
 pub mod Digits
+pub mod Numbers
 pub mod Pairs
 pub mod Table

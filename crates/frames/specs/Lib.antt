@@ -1,2 +1,3 @@
-pub mod Hex
+pub mod Bytes
 pub mod Frames
+pub mod Hex

@@ -2,3 +2,4 @@ pub mod Digits
 pub mod Numbers
 pub mod Pairs
 pub mod Table
+pub mod Texts

@@ -1,9 +1,11 @@
 -- Hexadecimal digits: what each character stands for, and what a line of them says.
 use mathlib.Core.Bool.{Bool, cond, _&&_}
 use mathlib.Core.List.{List, [], _∷_}
-use Prim.Native.Nat.{ℕ, _+_, _-_, _*_, _%_}
+use mathlib.Core.Path.{_≡_}
+use Prim.Native.Nat.{ℕ, _+_, _-_, _*_, _/_, _%_, _<_, _≤_}
 use lib.Dec.{eqb, leb, ltb}
 use lib.ListN.{length}
+use Rattle.std.specs.shelf.Lists.{All, joined}
 use Rattle.std.specs.declared.option.Option.{Option}
 use Rattle.std.specs.declared.option.Option.the-variants.{Some, None}
 
@@ -47,3 +49,21 @@ right-length n = within 2 76 n && eqb (n % 2) 0
 -- the bytes that a line says, if it is one of digits and of the right length
 abbrev pub line-bytes : List ℕ → Option (List ℕ)
 line-bytes line = cond (right-length (length line)) (pairs line) None
+
+-- the digit of a number below 16, a capital letter from ten on
+abbrev pub letter-of : ℕ → ℕ
+letter-of n = cond (ltb n 10) (48 + n) (55 + n)
+
+-- the two digits of a byte
+abbrev pub hex-of : ℕ → List ℕ
+hex-of b = letter-of (b / 16) ∷ letter-of (b % 16) ∷ []
+
+-- the digits of each byte, one byte after the other
+abbrev pub hex-text : List ℕ → List ℕ
+hex-text bytes = joined hex-of bytes
+
+-- the law: what is written of 1 to 38 bytes is a line that says them
+abbrev pub RoundTrip : Type 0
+RoundTrip =
+    (bytes : List ℕ) → All (λ b. b < 256) bytes → 1 ≤ length bytes → length bytes ≤ 38
+    → line-bytes (hex-text bytes) ≡ Some bytes

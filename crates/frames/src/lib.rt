@@ -3,8 +3,10 @@ mod bytes;
 mod frame;
 mod hex;
 mod line;
+mod text;
 
 pub use bytes::u64_bytes;
 pub use frame::Frame;
 pub use hex::digit;
 pub use line::unhex;
+pub use text::push_hex;

@@ -8,7 +8,7 @@ use Rattle.std.specs.declared.option.Option.the-variants.{Some}
 use Rattle.std.specs.shelf.Lists.{All}
 use Rattle.std.proofs.shelf.Lists.{joined-more, take-more}
 use Rattle.std.proofs.shelf.Ways.{tells}
-use Rattle.frames.specs.Hex.{RoundTrip, byte-of, digit-value, hex-of, hex-text, letter-of, pairs}
+use Rattle.frames.specs.Hex.{RoundTrip, digit-value, hex-of, hex-text, letter-of, pairs}
 
 -- the digit of a number stands for it
 letter-value : (n : ℕ) → n < 16 → digit-value (letter-of n) ≡ Some n

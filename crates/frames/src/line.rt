@@ -6,6 +6,7 @@ ghost use Rattle.std.specs.Options.{mapped};
 ghost use Rattle.frames.specs.Frames.{frame-bytes};
 ghost use Rattle.frames.specs.Hex.{byte-of, digit-value, line-bytes, pairs, right-length};
 use crate::frame::Frame;
+use crate::frame::MOST_BYTES;
 use crate::hex::digit;
 
 impl Frame {
@@ -31,7 +32,7 @@ pub fn unhex(line: &[u8]) -> Option<Frame>
 fn has_right_length(count: usize) -> bool
     ensures { λ r. ⌜ r ≡ right-length count ⌝ }
 {
-    count >= 2 && count <= 76 && count % 2 == 0
+    count >= 2 && count <= 2 * MOST_BYTES && count % 2 == 0
 }
 
 // The byte of two digits.
@@ -47,7 +48,7 @@ fn paired(line: &[u8]) -> Option<Frame>
     requires even { ⌜ length (now line) % 2 ≡ 0 ⌝ }
     ensures { λ r. ⌜ mapped frame-bytes r ≡ pairs (now (line .entry)) ⌝ }
 {
-    let mut bytes = [0; 38];
+    let mut bytes = [0; MOST_BYTES];
     let len = line.len() / 2;
     for i in 0..len {
         bytes[i] = byte(line[2 * i], line[2 * i + 1])?;

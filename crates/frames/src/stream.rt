@@ -4,6 +4,7 @@ ghost use mathlib.Core.Path.{_≡_};
 ghost use lib.Dec.{eqb};
 ghost use lib.ListN.{length, take};
 ghost use Rattle.frames.specs.Stream.{CutAlike, kept};
+use crate::partial::MOST_KEPT;
 use crate::partial::Partial;
 
 impl Partial {
@@ -11,7 +12,7 @@ impl Partial {
         ensures { λ r. ⌜ kept r ≡ [] ⌝ }
     {
         Partial {
-            bytes: [0; 77],
+            bytes: [0; MOST_KEPT],
             len: 0,
         }
     }
@@ -48,7 +49,7 @@ impl Partial {
         ensures keeps { λ _. ⌜ kept (now (self .exit)) ≡ take 77 (kept (now (self .entry)) ++ now (part .entry)) ⌝ }
         ensures same { λ _. ⌜ CutAlike ⌝ }
     {
-        let count = part.len().min(77 - self.len);
+        let count = part.len().min(MOST_KEPT - self.len);
         let end = self.len + count;
         self.bytes[self.len..end].copy_from_slice(&part[0..count]);
         self.len = end;

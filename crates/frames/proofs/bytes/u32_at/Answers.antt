@@ -1,0 +1,7 @@
+use native.Mathlib.Nat.{add-zero}
+use native.Mathlib.Omega.{arith}
+use Rattle.frames.proofs.Numbers.{number-weighed}
+use Rattle.frames.proofs.bytes.u32_at.Needs as need
+
+pub returns : need.returns
+returns c = rw (number-weighed (c .args .at) 4 (c .args .b .now) (c .pre), add-zero) (omega arith)

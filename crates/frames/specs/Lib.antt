@@ -1,4 +1,6 @@
 pub mod Bytes
+pub mod Calls
 pub mod Frames
 pub mod Hex
+pub mod Replies
 pub mod Stream

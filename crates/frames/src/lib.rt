@@ -1,15 +1,19 @@
 // Lines of hexadecimal digits, and the bytes that they say.
 mod bytes;
+mod decoding;
 mod frame;
 mod hex;
 mod line;
 mod partial;
+mod reply;
 mod stream;
 mod text;
 
 pub use bytes::u64_bytes;
+pub use decoding::decode;
 pub use frame::Frame;
 pub use hex::digit;
 pub use line::unhex;
 pub use partial::Partial;
+pub use reply::answer;
 pub use text::push_hex;

@@ -1,2 +1,4 @@
 pub mod Holdings
 pub mod Answers
+pub mod Rows
+pub mod Table

@@ -1,0 +1,39 @@
+-- Where the rows of kinds and accounts stand, and what a row rewritten changes.
+use mathlib.Core.Path.{_≡_, ap, sym, _∙_, fun-ext}
+use mathlib.Core.Bool.{cond, _&&_}
+use mathlib.Core.List.{List}
+use mathlib.Core.Logic.{_≢_, inl, inr, ⊎-elim}
+use Prim.Native.Nat.{ℕ, _+_, _*_, _/_, _%_, _<_, min}
+use native.Mathlib.Nat.{div-mul-le-self}
+use native.Mathlib.Omega.{arith}
+use lib.Dec.{eqb, ltb}
+use lib.ListN.{length, getD, set}
+use Rattle.std.proofs.shelf.Bits.{mul-add-lt, div-mul-add, mod-mul-add}
+use Rattle.std.proofs.shelf.Lists.{length-set, getD-set-same, getD-set-other}
+use Rattle.std.proofs.shelf.Ways.{tells}
+use Rattle.register.specs.Holdings.{with-amount, most}
+use Rattle.register.specs.Rows.{stride, place, shown-kinds, shown-accounts, laid, Known}
+
+-- each place that is shown is that of a row
+pub place-within : {X : Type 0} (kinds : ℕ) (rows : List X) (k a : ℕ) → Known kinds rows k a → place kinds rows k a < length rows
+place-within kinds rows k a known =
+    let kind : k < kinds = omega arith in
+    let account : a < stride kinds rows = omega arith in
+    omega (arith, mul-add-lt k (stride kinds rows) a kinds kind account, div-mul-le-self (length rows) kinds)
+
+-- two kinds and accounts with one place are the same
+place-apart : (w j b k a : ℕ) → b < w → a < w → j * w + b ≡ k * w + a → (j ≡ k) × (b ≡ a)
+place-apart w j b k a p q e = (
+  sym (div-mul-add j w b p) ∙ ap (λ n. n / w) e ∙ div-mul-add k w a q,
+  sym (mod-mul-add j w b p) ∙ ap (λ n. n % w) e ∙ mod-mul-add k w a q,
+)
+
+-- a row rewritten is one amount changed
+pub rewritten : {X : Type 0} (counts : X → ℕ) (none : X) (kinds : ℕ) (rows : List X) (k a : ℕ) (x : X) → Known kinds rows k a →
+    laid kinds (set rows (place kinds rows k a) x) counts none ≡ with-amount (laid kinds rows counts none) k a (counts x)
+rewritten {X} counts none kinds rows k a x known =
+    let w = stride kinds rows in
+    let here = place kinds rows k a in
+    let within = place-within kinds rows k a known in
+    let each : (j b : ℕ) → cond (ltb j (shown-kinds kinds rows) && ltb b (shown-accounts kinds rows)) (counts (getD (set rows here x) (j * w + b) none)) 0 ≡ with-amount (laid kinds rows counts none) k a (counts x) .amount j b = λ j b. grind (arith, tells, getD-set-same rows here x none within, getD-set-other rows here (j * w + b) x none, place-apart w j b k a) in
+    simp length-set (λ i. record { kinds = shown-kinds kinds rows; accounts = shown-accounts kinds rows; amount = fun-ext (λ j. fun-ext (each j)) i })

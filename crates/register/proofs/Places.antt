@@ -1,18 +1,16 @@
 -- Where the rows of kinds and accounts stand, and what a row rewritten changes.
-use mathlib.Core.Path.{_≡_, ap, sym, _∙_, fun-ext}
-use mathlib.Core.Bool.{cond, _&&_}
+use mathlib.Core.Path.{_≡_, refl, ap, sym, _∙_}
 use mathlib.Core.List.{List}
-use mathlib.Core.Logic.{_≢_, inl, inr, ⊎-elim}
-use Prim.Native.Nat.{ℕ, _+_, _*_, _/_, _%_, _<_, min}
+use Prim.Native.Nat.{ℕ, _+_, _*_, _/_, _%_, _<_}
 use native.Mathlib.Nat.{div-mul-le-self}
 use native.Mathlib.Omega.{arith}
-use lib.Dec.{eqb, ltb}
 use lib.ListN.{length, getD, set}
 use Rattle.std.proofs.shelf.Bits.{mul-add-lt, div-mul-add, mod-mul-add}
 use Rattle.std.proofs.shelf.Lists.{length-set, getD-set-same, getD-set-other}
 use Rattle.std.proofs.shelf.Ways.{tells}
-use Rattle.register.specs.Holdings.{with-amount, most}
-use Rattle.register.specs.Rows.{stride, place, shown-kinds, shown-accounts, laid, Known}
+use Rattle.register.specs.Holdings.{with-amount}
+use Rattle.register.specs.Rows.{stride, place, laid, Known}
+use Rattle.register.proofs.Alike.{same-holdings}
 
 -- each place that is shown is that of a row
 pub place-within : {X : Type 0} (kinds : ℕ) (rows : List X) (k a : ℕ) → Known kinds rows k a → place kinds rows k a < length rows
@@ -35,5 +33,4 @@ rewritten {X} counts none kinds rows k a x known =
     let w = stride kinds rows in
     let here = place kinds rows k a in
     let within = place-within kinds rows k a known in
-    let each : (j b : ℕ) → cond (ltb j (shown-kinds kinds rows) && ltb b (shown-accounts kinds rows)) (counts (getD (set rows here x) (j * w + b) none)) 0 ≡ with-amount (laid kinds rows counts none) k a (counts x) .amount j b = λ j b. grind (arith, tells, getD-set-same rows here x none within, getD-set-other rows here (j * w + b) x none, place-apart w j b k a) in
-    simp length-set (λ i. record { kinds = shown-kinds kinds rows; accounts = shown-accounts kinds rows; amount = fun-ext (λ j. fun-ext (each j)) i })
+    same-holdings refl (simp length-set) (λ j b. simp length-set (grind (arith, tells, getD-set-same rows here x none within, getD-set-other rows here (j * w + b) x none, place-apart w j b k a)))

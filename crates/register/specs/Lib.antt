@@ -2,3 +2,4 @@ pub mod Holdings
 pub mod Answers
 pub mod Rows
 pub mod Table
+pub mod Joined

@@ -2,14 +2,9 @@
 use mathlib.Core.Bool.{cond, _&&_}
 use mathlib.Core.List.{List}
 use Prim.Native.Nat.{ℕ, _+_, _*_, _/_, _<_, min}
-use lib.Dec.{leb, ltb}
+use lib.Dec.{ltb}
 use lib.ListN.{length, getD}
-use Rattle.std.specs.declared.result.Result.{Result}
-use Rattle.std.specs.declared.result.Result.the-variants.{Ok}
-use Rattle.register.specs.Answers.{refuses}
 use Rattle.register.specs.Holdings.{Holdings, most}
-use Rattle.register.specs.declared.refusal.Refusal.{Refusal}
-use Rattle.register.specs.declared.refusal.Refusal.the-variants.{UnknownKind, UnknownAccount}
 
 module _ {X : Type 0} (kinds : ℕ) (rows : List X) where
   -- how many rows each kind has: what is left over is unused, and of 0 kinds none has a row
@@ -40,7 +35,3 @@ module _ {X : Type 0} (kinds : ℕ) (rows : List X) where
   pub record Known (k a : ℕ) : Type 0 where
     pub kind : k < shown-kinds
     pub account : a < shown-accounts
-
-  -- the refusal of a kind or an account that is not shown
-  abbrev pub known-answer : ℕ → ℕ → Result Unit Refusal
-  known-answer k a = refuses (leb shown-kinds k) UnknownKind (refuses (leb shown-accounts a) UnknownAccount (Ok tt))

@@ -4,11 +4,8 @@ ghost use Prim.Native.Nat.{ℕ, _<_};
 ghost use lib.ListN.{length, getD, set as set-at};
 ghost use Rattle.std.specs.Of.Vec.{vec-items};
 ghost use Rattle.register.specs.Holdings.{with-amount};
-ghost use Rattle.register.specs.Rows.{stride as stride-of, shown-kinds, shown-accounts, place as place-of, laid, Known, known-answer};
-use crate::refusal::Refusal;
-
-// No more kinds are shown, and no more accounts.
-const MOST: usize = 1000;
+ghost use Rattle.register.specs.Rows.{stride as stride-of, shown-kinds, shown-accounts, place as place-of, laid, Known};
+use crate::register::MOST;
 
 #[derive(Drop)]
 pub struct Rows<X> {
@@ -53,19 +50,6 @@ impl<X: Copy> Rows<X> {
         ensures { λ r. ⌜ r ≡ shown-accounts (now (self .entry) .kinds) (vec-items (now (self .entry) .items)) ⌝ }
     {
         self.stride.min(MOST)
-    }
-
-    // Refuses a kind or an account that is not shown.
-    pub fn known(&self, kind: usize, account: usize) -> Result<(), Refusal>
-        ensures { λ r. ⌜ r ≡ known-answer (now (self .entry) .kinds) (vec-items (now (self .entry) .items)) kind account ⌝ }
-    {
-        if kind >= self.kinds() {
-            return Err(Refusal::UnknownKind);
-        }
-        if account >= self.accounts() {
-            return Err(Refusal::UnknownAccount);
-        }
-        Ok(())
     }
 
     // Where the row of a kind and an account stands.

@@ -7,6 +7,7 @@ ghost use Rattle.register.specs.Rows.{Known};
 ghost use Rattle.register.specs.Table.{counted as counted-as, table-holdings, table-rows, table-shows};
 use crate::questions::has_room;
 use crate::questions::holds;
+use crate::questions::known;
 use crate::refusal::Refusal;
 use crate::register::LIMIT;
 use crate::register::Register;
@@ -70,14 +71,14 @@ pub impl Register for Table as TableRegister {
     }
 
     fn tell(&self, kind: usize, account: usize) -> u64 {
-        match self.rows.known(kind, account) {
+        match known(self.kinds(), self.accounts(), kind, account) {
             Ok(()) => self.held(kind, account),
             Err(_) => 0,
         }
     }
 
     fn put(&mut self, kind: usize, account: usize, amount: u64) -> Result<(), Refusal> {
-        self.rows.known(kind, account)?;
+        known(self.kinds(), self.accounts(), kind, account)?;
         let held = self.held(kind, account);
         has_room(held, amount)?;
         self.set(kind, account, held + amount);
@@ -85,7 +86,7 @@ pub impl Register for Table as TableRegister {
     }
 
     fn take(&mut self, kind: usize, account: usize, amount: u64) -> Result<(), Refusal> {
-        self.rows.known(kind, account)?;
+        known(self.kinds(), self.accounts(), kind, account)?;
         let held = self.held(kind, account);
         holds(held, amount)?;
         self.set(kind, account, held - amount);

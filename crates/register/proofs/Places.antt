@@ -34,3 +34,8 @@ rewritten {X} counts none kinds rows k a x known =
     let here = place kinds rows k a in
     let within = place-within kinds rows k a known in
     same-holdings refl (simp length-set) (λ j b. simp length-set (grind (arith, tells, getD-set-same rows here x none within, getD-set-other rows here (j * w + b) x none, place-apart w j b k a)))
+
+-- a row reads as it was written
+pub read-back : {X : Type 0} (none : X) (kinds : ℕ) (rows : List X) (k a : ℕ) (x : X) → Known kinds rows k a →
+    let written = set rows (place kinds rows k a) x in getD written (place kinds written k a) none ≡ x
+read-back none kinds rows k a x known = let within = place-within kinds rows k a known in simp length-set (getD-set-same rows (place kinds rows k a) x none within)

@@ -3,3 +3,5 @@ pub mod Answers
 pub mod Rows
 pub mod Table
 pub mod Joined
+pub mod Columns
+pub mod Turnover

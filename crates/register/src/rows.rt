@@ -72,6 +72,7 @@ impl<X: Copy> Rows<X> {
         requires { ⌜ Known (now self .kinds) (vec-items (now self .items)) kind account ⌝ }
         ensures kinds { λ _. ⌜ now (self .exit) .kinds ≡ now (self .entry) .kinds ⌝ }
         ensures items { λ _. ⌜ vec-items (now (self .exit) .items) ≡ set-at (vec-items (now (self .entry) .items)) (place-of (now (self .entry) .kinds) (vec-items (now (self .entry) .items)) kind account) x ⌝ }
+        ensures row { λ _. ⌜ ((none : X) → getD (vec-items (now (self .exit) .items)) (place-of (now (self .exit) .kinds) (vec-items (now (self .exit) .items)) kind account) none ≡ x) ⌝ }
         ensures shows { λ _. ⌜ ((counts : X → ℕ) (none : X) → laid (now (self .exit) .kinds) (vec-items (now (self .exit) .items)) counts none ≡ with-amount (laid (now (self .entry) .kinds) (vec-items (now (self .entry) .items)) counts none) kind account (counts x)) ⌝ }
     {
         let place = self.place(kind, account);

@@ -4,12 +4,12 @@ use mathlib.Core.List.{List}
 use Prim.Native.Nat.{ℕ, _+_, _*_, _/_, _%_, _<_}
 use native.Mathlib.Nat.{div-mul-le-self}
 use native.Mathlib.Omega.{arith}
-use lib.ListN.{length, getD, set}
+use lib.ListN.{length, getD}
 use Rattle.std.proofs.shelf.Bits.{mul-add-lt, div-mul-add, mod-mul-add}
 use Rattle.std.proofs.shelf.Lists.{length-set, getD-set-same, getD-set-other}
 use Rattle.std.proofs.shelf.Ways.{tells}
 use Rattle.register.specs.Holdings.{with-amount}
-use Rattle.register.specs.Rows.{stride, place, laid, Known}
+use Rattle.register.specs.Rows.{stride, place, written, laid, Known}
 use Rattle.register.proofs.Alike.{same-holdings}
 
 -- each place that is shown is that of a row
@@ -28,7 +28,7 @@ place-apart w j b k a p q e = (
 
 -- a row rewritten is one amount changed
 pub rewritten : {X : Type 0} (counts : X → ℕ) (none : X) (kinds : ℕ) (rows : List X) (k a : ℕ) (x : X) → Known kinds rows k a →
-    laid kinds (set rows (place kinds rows k a) x) counts none ≡ with-amount (laid kinds rows counts none) k a (counts x)
+    laid kinds (written kinds rows k a x) counts none ≡ with-amount (laid kinds rows counts none) k a (counts x)
 rewritten {X} counts none kinds rows k a x known =
     let w = stride kinds rows in
     let here = place kinds rows k a in
@@ -37,5 +37,5 @@ rewritten {X} counts none kinds rows k a x known =
 
 -- a row reads as it was written
 pub read-back : {X : Type 0} (none : X) (kinds : ℕ) (rows : List X) (k a : ℕ) (x : X) → Known kinds rows k a →
-    let written = set rows (place kinds rows k a) x in getD written (place kinds written k a) none ≡ x
+    getD (written kinds rows k a x) (place kinds (written kinds rows k a x) k a) none ≡ x
 read-back none kinds rows k a x known = let within = place-within kinds rows k a known in simp length-set (getD-set-same rows (place kinds rows k a) x none within)

@@ -1,6 +1,8 @@
 // Two registers shown as one: the kinds of the first, then those of the second.
 ghost use mathlib.Core.Path.{_≡_};
-ghost use Rattle.register.specs.Joined.{joined-holdings, joined-shows};
+ghost use Rattle.register.specs.Answers.{Put, Taken};
+ghost use Rattle.register.specs.Holdings.{raised, lowered};
+ghost use Rattle.register.specs.Joined.{joined-holdings, joined-shows, PartsLeft};
 use crate::questions::known;
 use crate::refusal::Refusal;
 use crate::register::MOST;
@@ -54,7 +56,10 @@ pub impl<S: Register, C: Register> Register for Joined<S, C> as JoinedRegister {
         }
     }
 
-    fn put(&mut self, kind: usize, account: usize, amount: u64) -> Result<(), Refusal> {
+    fn put(&mut self, kind: usize, account: usize, amount: u64) -> Result<(), Refusal>
+        ensures put { λ r. ⌜ Put (joined-shows (S·Register .shows) (C·Register .shows) (now (self .entry))) kind account amount r (joined-shows (S·Register .shows) (C·Register .shows) (now (self .exit))) ⌝ }
+        ensures parts { λ r. ⌜ PartsLeft (S·Register .shows (now (self .entry) .first)) (C·Register .shows (now (self .entry) .second)) (λ h k. raised h k account amount) kind r (S·Register .shows (now (self .exit) .first)) (C·Register .shows (now (self .exit) .second)) ⌝ }
+    {
         known(self.kinds(), self.accounts(), kind, account)?;
         let first = self.first.kinds();
         if kind < first {
@@ -64,7 +69,10 @@ pub impl<S: Register, C: Register> Register for Joined<S, C> as JoinedRegister {
         }
     }
 
-    fn take(&mut self, kind: usize, account: usize, amount: u64) -> Result<(), Refusal> {
+    fn take(&mut self, kind: usize, account: usize, amount: u64) -> Result<(), Refusal>
+        ensures taken { λ r. ⌜ Taken (joined-shows (S·Register .shows) (C·Register .shows) (now (self .entry))) kind account amount r (joined-shows (S·Register .shows) (C·Register .shows) (now (self .exit))) ⌝ }
+        ensures parts { λ r. ⌜ PartsLeft (S·Register .shows (now (self .entry) .first)) (C·Register .shows (now (self .entry) .second)) (λ h k. lowered h k account amount) kind r (S·Register .shows (now (self .exit) .first)) (C·Register .shows (now (self .exit) .second)) ⌝ }
+    {
         known(self.kinds(), self.accounts(), kind, account)?;
         let first = self.first.kinds();
         if kind < first {

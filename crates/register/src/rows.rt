@@ -1,10 +1,10 @@
 // Rows of the host that go kind by kind, as many for each kind.
 ghost use mathlib.Core.Path.{_≡_};
 ghost use Prim.Native.Nat.{ℕ, _<_};
-ghost use lib.ListN.{length, getD, set as set-at};
+ghost use lib.ListN.{length, getD};
 ghost use Rattle.std.specs.Of.Vec.{vec-items};
 ghost use Rattle.register.specs.Holdings.{with-amount};
-ghost use Rattle.register.specs.Rows.{stride as stride-of, shown-kinds, shown-accounts, place as place-of, laid, Known};
+ghost use Rattle.register.specs.Rows.{stride as stride-of, shown-kinds, shown-accounts, place as place-of, written, laid, Known};
 use crate::register::MOST;
 
 #[derive(Drop)]
@@ -71,7 +71,7 @@ impl<X: Copy> Rows<X> {
     pub fn set(&mut self, kind: usize, account: usize, x: X)
         requires { ⌜ Known (now self .kinds) (vec-items (now self .items)) kind account ⌝ }
         ensures kinds { λ _. ⌜ now (self .exit) .kinds ≡ now (self .entry) .kinds ⌝ }
-        ensures items { λ _. ⌜ vec-items (now (self .exit) .items) ≡ set-at (vec-items (now (self .entry) .items)) (place-of (now (self .entry) .kinds) (vec-items (now (self .entry) .items)) kind account) x ⌝ }
+        ensures items { λ _. ⌜ vec-items (now (self .exit) .items) ≡ written (now (self .entry) .kinds) (vec-items (now (self .entry) .items)) kind account x ⌝ }
         ensures row { λ _. ⌜ ((none : X) → getD (vec-items (now (self .exit) .items)) (place-of (now (self .exit) .kinds) (vec-items (now (self .exit) .items)) kind account) none ≡ x) ⌝ }
         ensures shows { λ _. ⌜ ((counts : X → ℕ) (none : X) → laid (now (self .exit) .kinds) (vec-items (now (self .exit) .items)) counts none ≡ with-amount (laid (now (self .entry) .kinds) (vec-items (now (self .entry) .items)) counts none) kind account (counts x)) ⌝ }
     {

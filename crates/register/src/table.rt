@@ -1,9 +1,11 @@
 // A register over signed rows of the host.
 ghost use mathlib.Core.Path.{_≡_};
-ghost use Prim.Native.Nat.{_≤_};
+ghost use Prim.Native.Nat.{_+_, _-_, _≤_};
+ghost use lib.IntN.{pos};
 ghost use Rattle.std.specs.Of.Vec.{vec-items};
+ghost use Rattle.register.specs.Answers.{Put, Taken};
 ghost use Rattle.register.specs.Holdings.{limit, with-amount};
-ghost use Rattle.register.specs.Rows.{Known};
+ghost use Rattle.register.specs.Rows.{Known, written, left-by};
 ghost use Rattle.register.specs.Table.{counted as counted-as, table-holdings, table-rows, table-shows};
 use crate::questions::has_room;
 use crate::questions::holds;
@@ -28,7 +30,8 @@ fn counted(row: i64) -> u64
 impl Table {
     // A register over the rows, kind by kind.
     pub fn new(rows: Vec<i64>, kinds: usize) -> Table
-        ensures { λ r. ⌜ table-shows r ≡ table-holdings kinds (vec-items rows) ⌝ }
+        ensures shows { λ r. ⌜ table-shows r ≡ table-holdings kinds (vec-items rows) ⌝ }
+        ensures rows { λ r. ⌜ table-rows r ≡ vec-items rows ⌝ }
     {
         Table {
             rows: Rows::new(rows, kinds),
@@ -53,7 +56,8 @@ impl Table {
     fn set(&mut self, kind: usize, account: usize, amount: u64)
         requires known { ⌜ Known (now self .rows .kinds) (table-rows (now self)) kind account ⌝ }
         requires small { ⌜ amount ≤ limit ⌝ }
-        ensures { λ _. ⌜ table-shows (now (self .exit)) ≡ with-amount (table-shows (now (self .entry))) kind account amount ⌝ }
+        ensures shows { λ _. ⌜ table-shows (now (self .exit)) ≡ with-amount (table-shows (now (self .entry))) kind account amount ⌝ }
+        ensures rows { λ _. ⌜ table-rows (now (self .exit)) ≡ written (now (self .entry) .rows .kinds) (table-rows (now (self .entry))) kind account (pos amount) ⌝ }
     {
         self.rows.set(kind, account, amount as i64);
     }
@@ -77,7 +81,10 @@ pub impl Register for Table as TableRegister {
         }
     }
 
-    fn put(&mut self, kind: usize, account: usize, amount: u64) -> Result<(), Refusal> {
+    fn put(&mut self, kind: usize, account: usize, amount: u64) -> Result<(), Refusal>
+        ensures put { λ r. ⌜ Put (table-shows (now (self .entry))) kind account amount r (table-shows (now (self .exit))) ⌝ }
+        ensures rows { λ r. ⌜ table-rows (now (self .exit)) ≡ left-by (now (self .entry) .rows .kinds) (table-rows (now (self .entry))) r kind account (pos (table-shows (now (self .entry)) .amount kind account + amount)) ⌝ }
+    {
         known(self.kinds(), self.accounts(), kind, account)?;
         let held = self.held(kind, account);
         has_room(held, amount)?;
@@ -85,7 +92,10 @@ pub impl Register for Table as TableRegister {
         Ok(())
     }
 
-    fn take(&mut self, kind: usize, account: usize, amount: u64) -> Result<(), Refusal> {
+    fn take(&mut self, kind: usize, account: usize, amount: u64) -> Result<(), Refusal>
+        ensures taken { λ r. ⌜ Taken (table-shows (now (self .entry))) kind account amount r (table-shows (now (self .exit))) ⌝ }
+        ensures rows { λ r. ⌜ table-rows (now (self .exit)) ≡ left-by (now (self .entry) .rows .kinds) (table-rows (now (self .entry))) r kind account (pos (table-shows (now (self .entry)) .amount kind account - amount)) ⌝ }
+    {
         known(self.kinds(), self.accounts(), kind, account)?;
         let held = self.held(kind, account);
         holds(held, amount)?;

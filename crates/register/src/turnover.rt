@@ -1,12 +1,11 @@
 // A register over rows of credits and debits of the host.
 ghost use mathlib.Core.Path.{_≡_};
-ghost use lib.ListN.{set as set-at};
 ghost use Rattle.std.specs.Of.Vec.{vec-items};
 ghost use Rattle.register.specs.Answers.{Put, Taken};
 ghost use Rattle.register.specs.Columns.{balance, credited as credited-by, debited as debited-by, Fits};
 ghost use Rattle.register.specs.Holdings.{with-amount};
-ghost use Rattle.register.specs.Rows.{Known};
-ghost use Rattle.register.specs.Turnover.{turnover-holdings, turnover-rows, turnover-shows, turnover-place, turnover-row, Entered};
+ghost use Rattle.register.specs.Rows.{Known, written};
+ghost use Rattle.register.specs.Turnover.{turnover-holdings, turnover-rows, turnover-shows, turnover-row, Entered};
 use crate::columns::Columns;
 use crate::questions::has_room;
 use crate::questions::holds;
@@ -51,7 +50,7 @@ impl Turnover {
         requires known { ⌜ Known (now self .rows .kinds) (turnover-rows (now self)) kind account ⌝ }
         requires fits { ⌜ Fits columns ⌝ }
         ensures shows { λ _. ⌜ turnover-shows (now (self .exit)) ≡ with-amount (turnover-shows (now (self .entry))) kind account (balance columns) ⌝ }
-        ensures rows { λ _. ⌜ turnover-rows (now (self .exit)) ≡ set-at (turnover-rows (now (self .entry))) (turnover-place (now (self .entry)) kind account) columns ⌝ }
+        ensures rows { λ _. ⌜ turnover-rows (now (self .exit)) ≡ written (now (self .entry) .rows .kinds) (turnover-rows (now (self .entry))) kind account columns ⌝ }
         ensures fits { λ _. ⌜ Fits (turnover-row (now (self .exit)) kind account) ⌝ }
     {
         self.rows.set(kind, account, columns);

@@ -7,10 +7,12 @@ pub returns-then-kind-first : need.returns-then-kind-first
 returns-then-kind-first g c =
     let f = g .S·Register .shows (c .args .self .now .first) in
     let s = g .C·Register .shows (c .args .self .now .second) in
-    take-through (c .args .amount) (first-within f s (c .args .kind) (c .args .account) (search needs) (search needs) (search needs)) (c .take .ensures)
+    let within = first-within f s (c .args .kind) (c .args .account) (search needs) (search needs) (search needs) in
+    record { taken = take-through (c .args .amount) within (c .take .ensures); parts = search needs }
 
 pub returns-else-kind-first : need.returns-else-kind-first
 returns-else-kind-first g c =
     let f = g .S·Register .shows (c .args .self .now .first) in
     let s = g .C·Register .shows (c .args .self .now .second) in
-    take-through (c .args .amount) (second-within f s (c .args .kind - c .kinds-first .result) (c .args .kind) (c .args .account) (search needs) (search needs) (search needs)) (c .take-else-kind-first .ensures)
+    let within = second-within f s (c .args .kind - c .kinds-first .result) (c .args .kind) (c .args .account) (search needs) (search needs) (search needs) in
+    record { taken = take-through (c .args .amount) within (c .take-else-kind-first .ensures); parts = search needs }

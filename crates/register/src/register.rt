@@ -8,6 +8,9 @@ use crate::refusal::Refusal;
 // No amount is larger.
 pub const LIMIT: u64 = 1_000_000_000_000_000;
 
+// No register shows more kinds, or more accounts.
+pub const MOST: usize = 1000;
+
 pub trait Register: Drop {
     // The meaning: the amount of each kind on each account.
     ghost shows: { Self → Holdings };

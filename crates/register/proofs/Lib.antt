@@ -1,0 +1,3 @@
+mod Alike
+mod Parts
+mod Places

@@ -1,6 +1,7 @@
 // A line comes in parts.
 ghost use mathlib.Core.List.{[], _∷_, _++_};
 ghost use mathlib.Core.Path.{_≡_};
+ghost use Prim.Native.Nat.{_-_, min};
 ghost use lib.Dec.{eqb};
 ghost use lib.ListN.{length, take};
 ghost use Rattle.frames.specs.Stream.{CutAlike, kept};
@@ -49,9 +50,16 @@ impl Partial {
         ensures keeps { λ _. ⌜ kept (now (self .exit)) ≡ take 77 (kept (now (self .entry)) ++ now (part .entry)) ⌝ }
         ensures same { λ _. ⌜ CutAlike ⌝ }
     {
-        let count = part.len().min(MOST_KEPT - self.len);
+        let count = self.fitting(part.len());
         let end = self.len + count;
         self.bytes[self.len..end].copy_from_slice(&part[0..count]);
         self.len = end;
+    }
+
+    // How many of some more characters are kept.
+    fn fitting(&self, count: usize) -> usize
+        ensures { λ r. ⌜ r ≡ min count (77 - now (self .entry) .len) ⌝ }
+    {
+        count.min(MOST_KEPT - self.len)
     }
 }

@@ -6,6 +6,6 @@ pub returns : need.returns
 returns c =
     let put = c .copy-from-slice .last .self in
     record {
-      keeps = kept-joined _ (c .args .part .now) put _ (c .min-count .result) _ 77 (search needs) (search needs) (c .min-count .ensures) (search needs);
+      keeps = kept-joined _ (c .args .part .now) put _ (c .fitting-count .result) _ 77 (search needs) (search needs) (c .fitting-count .ensures) (search needs);
       same = cut-alike;
     }

@@ -8,7 +8,7 @@ use Rattle.std.specs.Results.{isOk}
 use Rattle.std.specs.declared.result.Result.{Result}
 use Rattle.register.specs.Answers.{Changed, Put, Taken}
 use Rattle.register.specs.Holdings.{Holdings, with-amount}
-use Rattle.register.specs.Joined.{joined-kinds, joined-accounts, joined-holdings}
+use Rattle.register.specs.Joined.{joined-holdings, Shown}
 use Rattle.register.specs.declared.refusal.Refusal.{Refusal}
 use Rattle.register.proofs.Alike.{same-holdings}
 
@@ -46,23 +46,23 @@ take-through {whole} {part} {part′} {p} {k} {a} n w c =
     through whole (grind (arith, tells)) (w .changes (part .amount p a - n) ∙ ap (λ x. with-amount (whole part) k a (x - n)) (w .same)) c
 
 -- a kind of the first register
-pub first-within : (f s : Holdings) (k a : ℕ) → k < f .kinds → k < joined-kinds f s → a < joined-accounts f s → Within (λ f. joined-holdings f s) f k k a
-first-within f s k a in-first kind account = record {
+pub first-within : (f s : Holdings) (k a : ℕ) → k < f .kinds → Shown f s k a → Within (λ f. joined-holdings f s) f k k a
+first-within f s k a in-first shown = record {
   part-kind = in-first;
   part-account = omega arith;
-  kind = kind;
-  account = account;
+  kind = shown .kind;
+  account = shown .account;
   same = grind (arith, tells);
   changes = λ m. same-holdings refl refl (λ j b. grind (arith, tells));
 }
 
 -- a kind of the second register
-pub second-within : (f s : Holdings) (p k a : ℕ) → f .kinds + p ≡ k → k < joined-kinds f s → a < joined-accounts f s → Within (joined-holdings f) s p k a
-second-within f s p k a in-second kind account = record {
+pub second-within : (f s : Holdings) (p k a : ℕ) → f .kinds + p ≡ k → Shown f s k a → Within (joined-holdings f) s p k a
+second-within f s p k a in-second shown = record {
   part-kind = omega arith;
   part-account = omega arith;
-  kind = kind;
-  account = account;
+  kind = shown .kind;
+  account = shown .account;
   same = grind (arith, tells);
   changes = λ m. same-holdings refl refl (λ j b. grind (arith, tells));
 }

@@ -1,11 +1,12 @@
 -- Two registers shown as one.
 use mathlib.Core.Path.{_≡_}
 use mathlib.Core.Bool.{cond, _&&_}
-use Prim.Native.Nat.{ℕ, _+_, _-_, min}
+use Prim.Native.Nat.{ℕ, _+_, _-_, _<_, min}
 use lib.Dec.{leb, ltb}
 use Rattle.std.specs.Results.{isOk}
 use Rattle.std.specs.declared.result.Result.{Result}
-use Rattle.register.specs.Holdings.{Holdings, most}
+use Rattle.register.specs.Answers.{Put, Taken}
+use Rattle.register.specs.Holdings.{Holdings, most, raised, lowered}
 use Rattle.register.specs.declared.refusal.Refusal.{Refusal}
 use Rattle.register.specs.declared.joined.Joined.{Joined}
 
@@ -29,10 +30,26 @@ module _ (f s : Holdings) where
         0;
   }
 
--- what a call leaves of the parts: the one that has the kind is changed where the call was answered, the other is not
-pub record PartsLeft (f s : Holdings) (change : Holdings → ℕ → Holdings) (k : ℕ) (r : Result Unit Refusal) (f′ s′ : Holdings) : Type 0 where
-  pub first : f′ ≡ cond (isOk r && ltb k (f .kinds)) (change f k) f
-  pub second : s′ ≡ cond (isOk r && leb (f .kinds) k) (change s (k - f .kinds)) s
+  -- that a kind and an account are shown
+  pub record Shown (k a : ℕ) : Type 0 where
+    pub kind : k < joined-kinds
+    pub account : a < joined-accounts
+
+module _ (f s : Holdings) where
+  -- what a call leaves of the parts: the one that has the kind is changed where the call was answered, the other is not
+  pub record PartsLeft (change : Holdings → ℕ → Holdings) (k : ℕ) (r : Result Unit Refusal) (f′ s′ : Holdings) : Type 0 where
+    pub first : f′ ≡ cond (isOk r && ltb k (f .kinds)) (change f k) f
+    pub second : s′ ≡ cond (isOk r && leb (f .kinds) k) (change s (k - f .kinds)) s
+
+  -- what putting leaves of the whole and of the parts
+  pub record PutJoined (k a n : ℕ) (r : Result Unit Refusal) (f′ s′ : Holdings) : Type 0 where
+    pub whole : Put (joined-holdings f s) k a n r (joined-holdings f′ s′)
+    pub parts : PartsLeft (λ h p. raised h p a n) k r f′ s′
+
+  -- what taking leaves of the whole and of the parts
+  pub record TakenJoined (k a n : ℕ) (r : Result Unit Refusal) (f′ s′ : Holdings) : Type 0 where
+    pub whole : Taken (joined-holdings f s) k a n r (joined-holdings f′ s′)
+    pub parts : PartsLeft (λ h p. lowered h p a n) k r f′ s′
 
 -- what a joined register shows, by what its parts show
 abbrev pub joined-shows : {S C : Type 0} → (S → Holdings) → (C → Holdings) → Joined S C → Holdings

@@ -2,7 +2,7 @@
 ghost use mathlib.Core.Path.{_≡_};
 ghost use Rattle.register.specs.Answers.{Put, Taken};
 ghost use Rattle.register.specs.Holdings.{raised, lowered};
-ghost use Rattle.register.specs.Joined.{joined-holdings, joined-shows, PartsLeft};
+ghost use Rattle.register.specs.Joined.{joined-holdings, joined-shows, Shown, PartsLeft, PutJoined, TakenJoined};
 use crate::questions::known;
 use crate::refusal::Refusal;
 use crate::register::MOST;
@@ -30,6 +30,32 @@ impl<S: Register, C: Register> Joined<S, C> {
     {
         let Joined { first, second } = self;
         (first, second)
+    }
+
+    // Raises an amount that is shown.
+    fn raise(&mut self, kind: usize, account: usize, amount: u64) -> Result<(), Refusal>
+        requires { ⌜ Shown (S·Register .shows (now self .first)) (C·Register .shows (now self .second)) kind account ⌝ }
+        ensures { λ r. ⌜ PutJoined (S·Register .shows (now (self .entry) .first)) (C·Register .shows (now (self .entry) .second)) kind account amount r (S·Register .shows (now (self .exit) .first)) (C·Register .shows (now (self .exit) .second)) ⌝ }
+    {
+        let first = self.first.kinds();
+        if kind < first {
+            self.first.put(kind, account, amount)
+        } else {
+            self.second.put(kind - first, account, amount)
+        }
+    }
+
+    // Lowers an amount that is shown.
+    fn lower(&mut self, kind: usize, account: usize, amount: u64) -> Result<(), Refusal>
+        requires { ⌜ Shown (S·Register .shows (now self .first)) (C·Register .shows (now self .second)) kind account ⌝ }
+        ensures { λ r. ⌜ TakenJoined (S·Register .shows (now (self .entry) .first)) (C·Register .shows (now (self .entry) .second)) kind account amount r (S·Register .shows (now (self .exit) .first)) (C·Register .shows (now (self .exit) .second)) ⌝ }
+    {
+        let first = self.first.kinds();
+        if kind < first {
+            self.first.take(kind, account, amount)
+        } else {
+            self.second.take(kind - first, account, amount)
+        }
     }
 }
 
@@ -61,12 +87,7 @@ pub impl<S: Register, C: Register> Register for Joined<S, C> as JoinedRegister {
         ensures parts { λ r. ⌜ PartsLeft (S·Register .shows (now (self .entry) .first)) (C·Register .shows (now (self .entry) .second)) (λ h k. raised h k account amount) kind r (S·Register .shows (now (self .exit) .first)) (C·Register .shows (now (self .exit) .second)) ⌝ }
     {
         known(self.kinds(), self.accounts(), kind, account)?;
-        let first = self.first.kinds();
-        if kind < first {
-            self.first.put(kind, account, amount)
-        } else {
-            self.second.put(kind - first, account, amount)
-        }
+        self.raise(kind, account, amount)
     }
 
     fn take(&mut self, kind: usize, account: usize, amount: u64) -> Result<(), Refusal>
@@ -74,11 +95,6 @@ pub impl<S: Register, C: Register> Register for Joined<S, C> as JoinedRegister {
         ensures parts { λ r. ⌜ PartsLeft (S·Register .shows (now (self .entry) .first)) (C·Register .shows (now (self .entry) .second)) (λ h k. lowered h k account amount) kind r (S·Register .shows (now (self .exit) .first)) (C·Register .shows (now (self .exit) .second)) ⌝ }
     {
         known(self.kinds(), self.accounts(), kind, account)?;
-        let first = self.first.kinds();
-        if kind < first {
-            self.first.take(kind, account, amount)
-        } else {
-            self.second.take(kind - first, account, amount)
-        }
+        self.lower(kind, account, amount)
     }
 }

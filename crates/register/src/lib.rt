@@ -6,6 +6,8 @@ pub mod refusal;
 mod register;
 mod rows;
 pub mod table;
+#[cfg(test)]
+mod tests;
 pub mod turnover;
 
 pub use columns::COLUMN_LIMIT;

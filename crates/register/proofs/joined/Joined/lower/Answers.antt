@@ -1,18 +1,18 @@
 use borrow.Author.Needs.{needs}
 use Prim.Native.Nat.{_-_}
 use Rattle.register.proofs.Parts.{take-through, first-within, second-within}
-use Rattle.register.proofs.joined.JoinedRegister.take.Needs as need
+use Rattle.register.proofs.joined.Joined.lower.Needs as need
 
 pub returns-then-kind-first : need.returns-then-kind-first
 returns-then-kind-first g c =
     let f = g .S·Register .shows (c .args .self .now .first) in
     let s = g .C·Register .shows (c .args .self .now .second) in
-    let within = first-within f s (c .args .kind) (c .args .account) (search needs) (search needs) (search needs) in
-    record { taken = take-through (c .args .amount) within (c .take .ensures); parts = search needs }
+    let within = first-within f s (c .args .kind) (c .args .account) (search needs) (c .pre) in
+    record { whole = take-through (c .args .amount) within (c .take .ensures); parts = search needs }
 
 pub returns-else-kind-first : need.returns-else-kind-first
 returns-else-kind-first g c =
     let f = g .S·Register .shows (c .args .self .now .first) in
     let s = g .C·Register .shows (c .args .self .now .second) in
-    let within = second-within f s (c .args .kind - c .kinds-first .result) (c .args .kind) (c .args .account) (search needs) (search needs) (search needs) in
-    record { taken = take-through (c .args .amount) within (c .take-else-kind-first .ensures); parts = search needs }
+    let within = second-within f s (c .args .kind - c .kinds-first .result) (c .args .kind) (c .args .account) (search needs) (c .pre) in
+    record { whole = take-through (c .args .amount) within (c .take-else-kind-first .ensures); parts = search needs }

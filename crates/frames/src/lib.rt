@@ -6,8 +6,10 @@ mod hex;
 mod line;
 mod partial;
 mod reply;
+mod responding;
 mod stream;
 mod text;
+mod writing;
 
 pub use bytes::u64_bytes;
 pub use decoding::decode;
@@ -16,4 +18,4 @@ pub use hex::digit;
 pub use line::unhex;
 pub use partial::Partial;
 pub use reply::answer;
-pub use text::push_hex;
+pub use responding::respond;

@@ -1,8 +1,10 @@
 -- The line that answers a line.
 use mathlib.Core.Path.{_≡_}
-use mathlib.Core.Bool.{Bool, true, cond}
+use mathlib.Core.Bool.{Bool, true, false, cond}
 use mathlib.Core.List.{List, [], _∷_, _++_}
-use Prim.Native.Nat.{ℕ}
+use Prim.Native.Nat.{ℕ, _+_, _-_, _<_, _≤_}
+use Rattle.std.specs.Of.Vec.{vec-cap, vec-items, vec-len}
+use Rattle.std.specs.declared.vec.Vec.{Vec}
 use Rattle.std.specs.declared.result.Result.{Result}
 use Rattle.std.specs.declared.result.Result.the-variants.{Ok, Err}
 use Rattle.fault.specs.declared.fault.Fault.{Fault}
@@ -58,8 +60,14 @@ pub record LineAnswered (line : List ℕ) (s : State) (r : Result Answer Fault) 
   pub becomes : t ≡ after-line s line
   pub performed : (c : Call) → line-call line ≡ Ok c → Performed s c r t
 
--- a line was answered by a line, or, where it was not done for want of memory, nothing changed
-pub record Responded (line : List ℕ) (s t : State) (out out′ : List ℕ) (done : Bool) : Type 0 where
-  pub written : out′ ≡ cond done (out ++ answer-line (line-answer s line)) out
+-- the room that is left
+abbrev pub spare : {Z : Type 0} → Vec ℕ Z → ℕ
+spare v = vec-cap v - vec-len v
+
+-- a line was answered by a line, or, where it was not done for want of room and memory, nothing changed
+pub record Responded {Z : Type 0} (line : List ℕ) (s t : State) (out out′ : Vec ℕ Z) (done : Bool) : Type 0 where
+  pub written : vec-items out′ ≡ cond done (vec-items out ++ answer-line (line-answer s line)) (vec-items out)
   pub becomes : t ≡ cond done (after-line s line) s
   pub answered : done ≡ true → LineAnswered line s (line-answer s line) t
+  pub stopped : done ≡ false → spare out < longest
+  pub used : spare out ≤ spare out′ + cond done longest 0

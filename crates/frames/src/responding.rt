@@ -1,10 +1,6 @@
 // A line is answered by a line.
-ghost use mathlib.Core.Bool.{true};
-ghost use mathlib.Core.Path.{_≡_};
-ghost use Prim.Native.Nat.{_+_, _≤_};
-ghost use Rattle.std.specs.Of.Vec.{vec-cap, vec-items, vec-len};
 ghost use Rattle.std.specs.Results.{isOk};
-ghost use Rattle.frames.specs.Replies.{Responded, longest};
+ghost use Rattle.frames.specs.Replies.{Responded};
 use crate::reply::answer;
 use crate::writing::LONGEST;
 use crate::writing::write_answer;
@@ -17,8 +13,7 @@ pub fn respond<B: Settlement>(
     line: &[u8],
     out: &mut Vec<u8>,
 ) -> Result<(), AllocError>
-    ensures responds { λ r. ⌜ Responded (now (line .entry)) (B·Settlement .state (now (book .entry))) (B·Settlement .state (now (book .exit))) (vec-items (now (out .entry))) (vec-items (now (out .exit))) (isOk r) ⌝ }
-    ensures succeeds { λ r. ⌜ (vec-len (now (out .entry)) + longest ≤ vec-cap (now (out .entry)) → isOk r ≡ true) ⌝ }
+    ensures { λ r. ⌜ Responded (now (line .entry)) (B·Settlement .state (now (book .entry))) (B·Settlement .state (now (book .exit))) (now (out .entry)) (now (out .exit)) (isOk r) ⌝ }
 {
     out.reserve(LONGEST)?;
     write_answer(out, answer(book, line));

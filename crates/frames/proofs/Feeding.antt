@@ -1,10 +1,9 @@
 -- Lines that are answered one after the other.
-use mathlib.Core.Bool.{Bool, true, false, cond}
+use mathlib.Core.Bool.{Bool, true, false}
 use mathlib.Core.List.{List, [], _∷_, _++_, append-assoc, append-nil}
 use mathlib.Core.Path.{_≡_, refl, sym, ap, _∙_}
 use Prim.Native.Nat.{ℕ, _+_, _<_}
 use native.Mathlib.Omega.{arith}
-use borrow.Author.Needs.{needs}
 use lib.Dec.{eqb}
 use lib.ListN.{length, take, drop, length-append}
 use Rattle.std.specs.Holes.{between}
@@ -22,8 +21,8 @@ use Rattle.history.specs.History.{Event, Leads, goes}
 use Rattle.history.proofs.Lawfulness.{all-lawful}
 use Rattle.frames.specs.Calls.{line-call}
 use Rattle.frames.specs.Hex.{line-bytes}
-use Rattle.frames.specs.Replies.{Responded, after-line, after-said, answer-line, line-answer, longest, spare}
-use Rattle.frames.specs.Sessions.{Ended, Fed, FirstNewline, LinesLawful, NoNewline, Said, Stopped, after-lines, answers, events, last-line, lines, rest, said-event}
+use Rattle.frames.specs.Replies.{Responded, after-line, after-said, answer-line, line-answer}
+use Rattle.frames.specs.Sessions.{Ended, Fed, FirstNewline, LinesAnswered, LinesLawful, NoNewline, Stopped, after-lines, answers, events, last-line, lines, rest, said-event}
 use Rattle.frames.specs.Stream.{Keeps, kept}
 use Rattle.frames.specs.declared.partial.Partial.{Partial}
 use Rattle.frames.proofs.Chunks.{next-line, no-line}
@@ -40,8 +39,8 @@ after-more : (s : State) (a b : List (List ℕ)) → after-lines s (a ++ b) ≡ 
 after-more s [] b = refl
 after-more s (line ∷ a) b = after-more (after-line s line) a b
 
-said-more : {Z : Type 0} (a b : List (List ℕ)) {s t u : State} {out out′ out″ : Vec ℕ Z} → Said a s t out out′ → Said b t u out′ out″ → Said (a ++ b) s u out out″
-said-more a b {s = s} {out = out} p q =
+answered-more : {Z : Type 0} (a b : List (List ℕ)) {s t u : State} {out out′ out″ : Vec ℕ Z} → LinesAnswered a s t out out′ → LinesAnswered b t u out′ out″ → LinesAnswered (a ++ b) s u out out″
+answered-more a b {s = s} {out = out} p q =
     let texts = answers-more s a b in
     let state = after-more s a b in
     let group = append-assoc (vec-items out) (answers s a) (answers (after-lines s a) b) in
@@ -50,13 +49,13 @@ said-more a b {s = s} {out = out} p q =
 
 -- a line by what its text says
 pub ended : {Z : Type 0} (line cut : List ℕ) {s t : State} {out out′ : Vec ℕ Z} (done : Bool) → line-bytes cut ≡ line-bytes line → Responded cut s t out out′ done → Ended (line ∷ []) s t out out′ done
-ended line cut {out = out} true same p =
+ended line cut true same p =
     record {
-      said = record { written = rw (append-nil, ← same) (p .written); becomes = rw (← same) (p .becomes); used = p .used };
+      answered = record { written = rw (append-nil, ← same) (p .written); becomes = rw (← same) (p .becomes); used = p .used };
       stopped = p .stopped;
     }
-ended line cut {out = out} false same p =
-    record { said = record { written = rw append-nil (p .written); becomes = p .becomes; used = p .used }; stopped = p .stopped }
+ended line cut false same p =
+    record { answered = record { written = rw append-nil (p .written); becomes = p .becomes; used = p .used }; stopped = p .stopped }
 
 pub last-is : (p : List ℕ) → 0 < length p → last-line p ≡ p ∷ []
 last-is [] h = absurd (omega arith)
@@ -89,7 +88,7 @@ pub record Underway {Z : Type 0} (p chunk : List ℕ) (start : ℕ) (s t : State
   pub begun : List ℕ
   pub all : lines p chunk ≡ first ++ lines begun (drop start chunk)
   pub tail : rest p chunk ≡ rest begun (drop start chunk)
-  pub said : Said first s t out out′
+  pub answered : LinesAnswered first s t out out′
   pub keeps : Keeps pending begun
 
 pub begins : {Z : Type 0} (p chunk : List ℕ) (s : State) (out : Vec ℕ Z) (pending : Partial) → Keeps pending p → Underway p chunk 0 s s out out pending
@@ -99,7 +98,7 @@ begins p chunk s out pending keeps =
       begun = p;
       all = refl;
       tail = refl;
-      said = record { written = sym (append-nil _); becomes = refl; used = omega arith };
+      answered = record { written = sym (append-nil _); becomes = refl; used = omega arith };
       keeps = keeps;
     }
 
@@ -119,7 +118,7 @@ module _ {Z : Type 0} {p chunk : List ℕ} {start : ℕ} {s t : State} {out out�
         begun = [];
         all = cc;
         tail = w .tail ∙ next .1;
-        said = said-more (w .first) (line ∷ []) (w .said) (ended .said);
+        answered = answered-more (w .first) (line ∷ []) (w .answered) (ended .answered);
         keeps = clear;
       }
 
@@ -135,8 +134,8 @@ module _ {Z : Type 0} {p chunk : List ℕ} {start : ℕ} {s t : State} {out out�
         first = w .first;
         others = lines (w .begun) (drop start chunk);
         all = w .all;
-        said = rw append-nil at (said-more (w .first) [] (w .said) (ended .said));
-        stopped = rw (w .all) (omega (arith, w .said .used, ended .stopped refl));
+        answered = rw append-nil at (answered-more (w .first) [] (w .answered) (ended .answered));
+        stopped = rw (w .all) (omega (arith, w .answered .used, ended .stopped refl));
       }
 
   -- no line is left
@@ -148,4 +147,4 @@ module _ {Z : Type 0} {p chunk : List ℕ} {start : ℕ} {s t : State} {out out�
       let none = no-line (w .begun) (drop start chunk) (rw take-rest at before) in
       let all : lines p chunk ≡ w .first = w .all ∙ rw (none .0, append-nil) in
       let tail : rest p chunk ≡ w .begun ++ drop start chunk = w .tail ∙ none .1 in
-      (rw all (w .said), rw tail (more ∙ rw (w .keeps, take-rest) (cut-joined 77 (w .begun) (drop start chunk))))
+      (rw all (w .answered), rw tail (more ∙ rw (w .keeps, take-rest) (cut-joined 77 (w .begun) (drop start chunk))))

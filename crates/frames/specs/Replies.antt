@@ -70,4 +70,5 @@ pub record Responded {Z : Type 0} (line : List ℕ) (s t : State) (out out′ : 
   pub becomes : t ≡ cond done (after-line s line) s
   pub answered : done ≡ true → LineAnswered line s (line-answer s line) t
   pub stopped : done ≡ false → spare out < longest
+  -- it takes at most the longest line's room
   pub used : spare out ≤ spare out′ + cond done longest 0

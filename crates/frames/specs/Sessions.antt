@@ -75,8 +75,8 @@ LinesLawful =
     (o : Opening) (h : List Event) (s : State) (ls : List (List ℕ)) → Leads o h s
     → Leads o (events s ls h) (after-lines s ls) × Lawful o (events s ls h) (after-lines s ls)
 
--- lines were answered, one after the other
-pub record Said {Z : Type 0} (ls : List (List ℕ)) (s t : State) (out out′ : Vec ℕ Z) : Type 0 where
+-- lines were answered, one after the other; each takes at most the longest line's room
+pub record LinesAnswered {Z : Type 0} (ls : List (List ℕ)) (s t : State) (out out′ : Vec ℕ Z) : Type 0 where
   pub written : vec-items out′ ≡ vec-items out ++ answers s ls
   pub becomes : t ≡ after-lines s ls
   pub used : spare out ≤ spare out′ + longest * length ls
@@ -86,15 +86,15 @@ pub record Stopped {Z : Type 0} (ls : List (List ℕ)) (s t : State) (out out′
   pub first : List (List ℕ)
   pub others : List (List ℕ)
   pub all : ls ≡ first ++ others
-  pub said : Said first s t out out′
+  pub answered : LinesAnswered first s t out out′
   pub stopped : spare out < longest * length ls
 
 -- a chunk after the text p of an unfinished line
 abbrev pub Fed : {Z : Type 0} → List ℕ → List ℕ → State → State → Vec ℕ Z → Vec ℕ Z → Partial → Bool → Type 0
-Fed p chunk s t out out′ pending true = Said (lines p chunk) s t out out′ × Keeps pending (rest p chunk)
+Fed p chunk s t out out′ pending true = LinesAnswered (lines p chunk) s t out out′ × Keeps pending (rest p chunk)
 Fed p chunk s t out out′ pending false = Stopped (lines p chunk) s t out out′
 
 -- a last line was answered, or, where it was not done for want of room and memory, nothing changed
 pub record Ended {Z : Type 0} (ls : List (List ℕ)) (s t : State) (out out′ : Vec ℕ Z) (done : Bool) : Type 0 where
-  pub said : Said (cond done ls []) s t out out′
+  pub answered : LinesAnswered (cond done ls []) s t out out′
   pub stopped : done ≡ false → spare out < longest

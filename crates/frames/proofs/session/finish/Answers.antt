@@ -1,4 +1,3 @@
-use mathlib.Core.Bool.{true}
 use borrow.Author.Needs.{needs}
 use Rattle.std.proofs.shelf.Lists.{nil-from-length}
 use Rattle.frames.proofs.Feeding.{ended, kept-none, kept-some, last-is}
@@ -8,8 +7,7 @@ use Rattle.frames.proofs.session.finish.Needs as need
 pub returns-in-Continue-respond : need.returns-in-Continue-respond
 returns-in-Continue-respond g c =
     record {
-      answers = λ p keeps. rw (last-is p (kept-some (c .args .pending .now) p keeps (search needs)))
-          (ended p _ true (rw (c .as-slice .ensures, keeps) (cut-alike p)) (c .in-Continue-respond .ensures tt));
+      answers = λ p keeps. rw (last-is p (search (needs, kept-some))) (search (needs, ended, cut-alike p));
       clears = search needs;
     }
 

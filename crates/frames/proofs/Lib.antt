@@ -1,4 +1,6 @@
+pub mod Chunks
 pub mod Digits
+pub mod Feeding
 pub mod Numbers
 pub mod Pairs
 pub mod Streams

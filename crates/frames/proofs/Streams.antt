@@ -36,3 +36,7 @@ cut-line most line h =
 
 pub cut-alike : CutAlike
 cut-alike line = cut-line 77 line (omega arith)
+
+-- a part after what is kept of a text
+pub cut-joined : (most : ℕ) (text part : List ℕ) → take most (take most text ++ part) ≡ take most (text ++ part)
+cut-joined most text part = same-lists _ _ (search (needs, places)) (λ k d h. grind (arith, places))

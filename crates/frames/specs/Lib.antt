@@ -3,4 +3,5 @@ pub mod Calls
 pub mod Frames
 pub mod Hex
 pub mod Replies
+pub mod Sessions
 pub mod Stream

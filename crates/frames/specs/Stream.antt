@@ -12,3 +12,7 @@ kept p = take (p .len) (p .bytes)
 -- the law: the first 77 characters of a line say what the whole line says
 abbrev pub CutAlike : Type 0
 CutAlike = (line : List ℕ) → line-bytes (take 77 line) ≡ line-bytes line
+
+-- the first 77 characters of a text are kept
+abbrev pub Keeps : Partial → List ℕ → Type 0
+Keeps pending text = kept pending ≡ take 77 text

@@ -1,9 +1,5 @@
-// The answer of a line, and how it is written.
-ghost use mathlib.Core.Bool.{cond};
-ghost use mathlib.Core.List.{_++_};
+// The answer of a line.
 ghost use mathlib.Core.Path.{_≡_};
-ghost use Rattle.std.specs.Of.Vec.{vec-items};
-ghost use Rattle.std.specs.Results.{isOk};
 ghost use Rattle.frames.specs.Calls.{line-call};
 ghost use Rattle.frames.specs.Replies.{LineAnswered};
 use crate::decoding::decode;

@@ -1,10 +1,7 @@
 use borrow.Author.Needs.{needs}
 use Rattle.std.proofs.shelf.Lists.{take-all}
 use Rattle.frames.proofs.Texts.{read-back, text-more}
-use Rattle.frames.proofs.text.push_hex.Needs as need
-
-pub returns-in-Break-reserve : need.returns-in-Break-reserve
-returns-in-Break-reserve c = search (needs, read-back)
+use Rattle.frames.proofs.text.write_hex.Needs as need
 
 pub loop-b-again : need.loop-b-again
 loop-b-again c = search (needs, text-more)

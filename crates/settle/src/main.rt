@@ -2,16 +2,17 @@
 mod opening;
 
 use crate::opening::open;
+use book::BookSettlement;
 use frames::Partial;
 use frames::feed;
 use frames::finish;
-use std::alloc::Global;
 use std::error::AnyError;
 use std::io::Read;
 use std::io::Write;
 
-// How much is read at a time.
-const CHUNK: usize = 65_536;
+// How much is read at a time, and the room for its answers: no line's is longer than 19 characters.
+const CHUNK: usize = 32_768;
+const ROOM: usize = 19 * CHUNK;
 
 // Answers every line that has come before it waits for more.
 fn serve(rt: &LibcRuntime) -> Result<(), AnyError> {
@@ -19,7 +20,7 @@ fn serve(rt: &LibcRuntime) -> Result<(), AnyError> {
     let mut book = open(heap)?;
     let mut pending = Partial::new();
     let mut input = vec![in heap; 0u8; CHUNK]?;
-    let mut out = Vec::new(heap);
+    let mut out = Vec::with_capacity(heap, ROOM)?;
     let mut stdin = rt.stdin();
     let mut stdout = rt.stdout();
     for _ in 0..u64::MAX {

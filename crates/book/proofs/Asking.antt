@@ -1,24 +1,14 @@
--- What it tells that no question was answered no.
-use mathlib.Core.Path.{_≡_, refl}
-use mathlib.Core.List.{List, [], _∷_}
-use mathlib.Core.Bool.{Bool, true, false, cond}
+-- What the questions of a payment tell where none was answered no.
+use mathlib.Core.Path.{_≡_}
 use Prim.Native.Nat.{ℕ, _≤_, _<_}
 use native.Mathlib.Omega.{arith}
 use Rattle.std.proofs.shelf.Ways.{tells}
-use Rattle.std.specs.shelf.Lists.{All}
-use Rattle.std.specs.declared.option.Option.the-variants.{Some, None}
+use Rattle.std.specs.declared.option.Option.the-variants.{None}
 use Rattle.book.specs.declared.place.Place.{Place}
 use Rattle.book.specs.State.{State, holdings}
-use Rattle.book.specs.Questions.{Question, first-no}
+use Rattle.fault.specs.Questions.{first-no}
+use Rattle.fault.proofs.Asking.{all-hold}
 use Rattle.book.specs.Paying.{pay-in-questions, pay-out-questions, amount-at}
-
-pub all-hold : (qs : List Question) → first-no qs ≡ None → All (λ q. q .holds ≡ true) qs
-all-hold [] e = tt
-all-hold (q ∷ qs) e =
-    elim (q .holds) as (λ b. cond b (first-no qs) (Some (q .fault)) ≡ None → (b ≡ true) × All (λ r. r .holds ≡ true) qs) [
-      | true ↦ λ (d : first-no qs ≡ None). (refl, all-hold qs d)
-      | false ↦ λ (d : Some (q .fault) ≡ None). let z : _≡_ {A = ℕ} 0 1 = cc in absurd (omega arith)
-    ] e
 
 -- the place of a payment is a participant's account of one of the two sides
 pub record Payable (s : State) (p : Place) : Type 0 where

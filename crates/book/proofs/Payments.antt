@@ -10,7 +10,7 @@ use Rattle.register.specs.Answers.{put-answer}
 use Rattle.register.specs.declared.refusal.Refusal.{Refusal}
 use Rattle.fault.specs.declared.fault.Fault.{Fault}
 use Rattle.book.specs.declared.place.Place.{Place}
-use Rattle.book.specs.Questions.{passes}
+use Rattle.fault.specs.Questions.{passes}
 use Rattle.book.specs.Paying.{payment-questions}
 use Rattle.book.proofs.Totals.{term-within}
 

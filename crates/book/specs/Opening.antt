@@ -6,7 +6,7 @@ use lib.Dec.{eqb, leb}
 use Rattle.register.specs.Holdings.{Holdings, limit, total}
 use Rattle.fault.specs.declared.fault.Fault.the-variants.{AccountCount, KindCount, OpeningSum, FirstDay}
 use Rattle.book.specs.State.{State}
-use Rattle.book.specs.Questions.{Question, ask, first-no}
+use Rattle.fault.specs.Questions.{Question, ask, first-no}
 
 -- what a book opens on
 pub record Opening : Type 0 where

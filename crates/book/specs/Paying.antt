@@ -10,7 +10,8 @@ use Rattle.fault.specs.declared.fault.Fault.{Fault}
 use Rattle.fault.specs.declared.fault.Fault.the-variants.{UnknownSide, UnknownKind, UnknownAccount, AmountRange, SumRange, HoldsLess}
 use Rattle.book.specs.declared.place.Place.{Place}
 use Rattle.book.specs.State.{State, holdings, with-holdings}
-use Rattle.book.specs.Questions.{Question, ask, passes, answer-to}
+use Rattle.fault.specs.Questions.{Question, ask, passes}
+use Rattle.book.specs.Questions.{answer-to}
 
 -- the largest amount of one pay-in or pay-out: 10^12
 abbrev pub most-paid : ℕ

@@ -1,39 +1,10 @@
--- A call asks questions in order; the first no is its answer, and then it changes nothing.
-use mathlib.Core.List.{List, [], _∷_}
-use mathlib.Core.Bool.{Bool, true, false, cond}
-use Rattle.std.specs.declared.option.Option.{Option}
-use Rattle.std.specs.declared.option.Option.the-variants.{Some, None}
+-- The answer of a call: the failed opening first, then the call's own questions.
+use mathlib.Core.List.{List}
 use Rattle.std.specs.declared.result.Result.{Result}
-use Rattle.std.specs.declared.result.Result.the-variants.{Ok, Err}
 use Rattle.fault.specs.declared.fault.Fault.{Fault}
+use Rattle.fault.specs.Questions.{Question, unless, asked}
 use Rattle.book.specs.State.{State}
 
--- what is asked, and the fault of a no
-pub record Question : Type 0 where
-  pub holds : Bool
-  pub fault : Fault
-
-abbrev pub ask : Bool → Fault → Question
-ask b f = record { holds = b; fault = f }
-
--- the fault of the first no
-abbrev pub first-no : List Question → Option Fault
-first-no [] = None
-first-no (q ∷ qs) = cond (q .holds) (first-no qs) (Some (q .fault))
-
--- refused by the fault, if there is one
-abbrev pub unless : {A : Type 0} → Option Fault → Result A Fault → Result A Fault
-unless None r = r
-unless (Some f) r = Err f
-
--- v, unless a question is answered no
-abbrev pub asked : {A : Type 0} → List Question → A → Result A Fault
-asked qs v = unless (first-no qs) (Ok v)
-
--- nothing more to answer, unless a question is answered no
-abbrev pub passes : List Question → Result Unit Fault
-passes qs = asked qs tt
-
--- the answer of a call in the state s: the failed opening first, then the questions, then v
+-- v in the state s, unless the opening failed or a question is answered no
 abbrev pub answer-to : {A : Type 0} → State → List Question → A → Result A Fault
 answer-to s qs v = unless (s .failed) (asked qs v)

@@ -2,7 +2,7 @@
 ghost use mathlib.Core.Path.{_≡_};
 ghost use Rattle.book.specs.Books.{state-of};
 ghost use Rattle.book.specs.Opening.{opened, opens-on, opening-questions};
-ghost use Rattle.book.specs.Questions.{first-no, unless};
+ghost use Rattle.fault.specs.Questions.{first-no, unless};
 ghost use Rattle.std.specs.declared.result.Result.the-variants.{Ok};
 use crate::book::Book;
 use crate::sums::within_limit;

@@ -1,6 +1,6 @@
 // Paying into and out of one register.
 ghost use mathlib.Core.Path.{_≡_};
-ghost use Rattle.book.specs.Questions.{asked, passes};
+ghost use Rattle.fault.specs.Questions.{asked, passes};
 ghost use Rattle.book.specs.Paying.{Deposited, Withdrawn, payment-questions, inquiry-questions};
 use crate::place::Place;
 use crate::sums::sum;

@@ -11,7 +11,7 @@ use Rattle.std.specs.declared.result.Result.{Result}
 use Rattle.std.specs.declared.result.Result.the-variants.{Ok, Err}
 use Rattle.fault.specs.declared.fault.Fault.{Fault}
 use Rattle.book.specs.State.{State}
-use Rattle.book.specs.Questions.{Question, first-no, unless, asked, answer-to}
+use Rattle.fault.specs.Questions.{Question, first-no, unless, asked}
 use Rattle.history.specs.declared.call.Call.{Call}
 use Rattle.history.specs.declared.call.Call.the-variants.{PayIn, PayOut, Tell}
 use Rattle.history.specs.declared.call.Answer.{Answer}

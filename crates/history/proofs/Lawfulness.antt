@@ -18,7 +18,7 @@ use Rattle.std.specs.declared.result.Result.the-variants.{Ok, Err}
 use Rattle.fault.specs.declared.fault.Fault.{Fault}
 use Rattle.book.specs.declared.place.Place.{Place}
 use Rattle.book.specs.State.{State, holdings}
-use Rattle.book.specs.Questions.{first-no}
+use Rattle.fault.specs.Questions.{first-no}
 use Rattle.book.specs.Opening.{Opening, opened}
 use Rattle.book.specs.Paying.{pay-in-questions, pay-out-questions, paid-in, paid-out, amount-at}
 use Rattle.history.specs.declared.call.Call.{Call}

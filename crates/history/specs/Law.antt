@@ -17,7 +17,7 @@ use Rattle.register.specs.Holdings.{total}
 use Rattle.fault.specs.declared.fault.Fault.{Fault}
 use Rattle.fault.specs.Numbers.{fault-number}
 use Rattle.book.specs.State.{State, holdings}
-use Rattle.book.specs.Questions.{first-no}
+use Rattle.fault.specs.Questions.{first-no}
 use Rattle.book.specs.Opening.{Opening, opening-questions}
 use Rattle.history.specs.declared.call.Call.{Call}
 use Rattle.history.specs.declared.call.Call.the-variants.{PayIn, PayOut, Tell}

@@ -6,7 +6,8 @@ use Rattle.std.specs.Results.{isOk}
 use Rattle.std.specs.declared.result.Result.{Result}
 use Rattle.fault.specs.declared.fault.Fault.{Fault}
 use Rattle.book.specs.State.{State}
-use Rattle.book.specs.Questions.{Question, answer-to}
+use Rattle.fault.specs.Questions.{Question}
+use Rattle.book.specs.Questions.{answer-to}
 use Rattle.book.specs.Paying.{pay-in-questions, pay-out-questions, tell-questions, paid-in, paid-out, amount-at}
 use Rattle.history.specs.declared.call.Call.{Call}
 use Rattle.history.specs.declared.call.Call.the-variants.{PayIn, PayOut, Tell}

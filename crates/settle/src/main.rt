@@ -12,6 +12,7 @@ use std::io::Write;
 
 // How much is read at a time, and the room for its answers: no line's is longer than 19 characters.
 const CHUNK: usize = 32_768;
+
 const ROOM: usize = 19 * CHUNK;
 
 // Answers every line that has come before it waits for more.

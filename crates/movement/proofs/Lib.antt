@@ -1,0 +1,2 @@
+pub mod TermTables
+pub mod Sides

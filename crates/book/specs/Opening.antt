@@ -5,6 +5,12 @@ use Prim.Native.Nat.{ℕ, zero, suc}
 use lib.Dec.{eqb, leb}
 use Rattle.register.specs.Holdings.{Holdings, limit, total}
 use Rattle.fault.specs.declared.fault.Fault.the-variants.{AccountCount, KindCount, OpeningSum, FirstDay}
+use Rattle.std.specs.declared.option.Option.{Option}
+use Rattle.std.specs.declared.option.Option.the-variants.{Some, None}
+use Rattle.fault.specs.declared.fault.Fault.{Fault}
+use Rattle.movement.specs.declared.half.Half.the-variants.{Morning}
+use Rattle.movement.specs.Agreed.{none-agreed}
+use Rattle.book.specs.Daily.{Daily}
 use Rattle.book.specs.State.{State}
 use Rattle.fault.specs.Questions.{Question, ask, first-no}
 
@@ -38,10 +44,35 @@ opening-questions o =
     ∷ (ask (leb (o .day) last-day) FirstDay
     ∷ [])))
 
+-- the first question that is answered no
+abbrev pub failed-question : Opening → Option Fault
+failed-question o = first-no (opening-questions o)
+
+-- n where the opening passed, else 0
+abbrev pub noted : Option Fault → ℕ → ℕ
+noted None n = n
+noted (Some f) n = 0
+
+-- the first morning: no trade accepted, no terms set, nothing on the book
+abbrev pub morning : ℕ → ℕ → ℕ → Daily
+morning accounts kinds day = record {
+  accounts = accounts;
+  kinds = kinds;
+  day = day;
+  half = Morning;
+  highest = 0;
+  terms = none-agreed;
+  movements = [];
+}
+
+abbrev pub first-morning : Opening → Daily
+first-morning o =
+    morning (noted (failed-question o) (o .securities .accounts)) (noted (failed-question o) (o .securities .kinds)) (o .day)
+
 abbrev pub opened : Opening → State
 opened o = record {
-  failed = first-no (opening-questions o);
-  day = o .day;
+  failed = failed-question o;
+  daily = first-morning o;
   securities = o .securities;
   cash = o .cash;
 }

@@ -1,4 +1,5 @@
 // A book over a securities register and a cash register.
+use crate::daybook::Daybook;
 use fault::Fault;
 use register::Register;
 
@@ -6,7 +7,7 @@ use register::Register;
 pub struct Book<S: Register, C: Register> {
     // the opening question that failed, if one did
     pub(crate) failed: Option<Fault>,
-    pub(crate) day: u32,
+    pub(crate) daybook: Daybook,
     pub(crate) securities: S,
     pub(crate) cash: C,
 }

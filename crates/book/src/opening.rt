@@ -1,13 +1,22 @@
 // Opening a book, and giving its registers back.
 ghost use mathlib.Core.Path.{_≡_};
-ghost use Rattle.book.specs.Books.{state-of};
-ghost use Rattle.book.specs.Opening.{opened, opens-on, opening-questions};
-ghost use Rattle.fault.specs.Questions.{first-no, unless};
+ghost use Rattle.book.specs.Books.{daily-of, state-of};
+ghost use Rattle.book.specs.Opening.{failed-question, morning, noted as noted-number, opened, opens-on};
+ghost use Rattle.fault.specs.Questions.{unless};
+ghost use Prim.Native.Nat.{_<_};
+ghost use Rattle.std.specs.Vec.{made};
+ghost use Rattle.std.specs.declared.option.Option.the-variants.{None};
 ghost use Rattle.std.specs.declared.result.Result.the-variants.{Ok};
 use crate::book::Book;
+use crate::daybook::Daybook;
+use crate::daybook::MOST_MOVEMENTS;
 use crate::sums::within_limit;
 use fault::Fault;
+use movement::Half;
+use movement::Terms;
 use register::Register;
+use std::alloc::AllocError;
+use std::alloc::Global;
 
 // The last day on which a book can open.
 const LAST_DAY: u32 = 60_000;
@@ -18,7 +27,7 @@ fn failed_question<S: Register, C: Register>(
     cash: &C,
     first_day: u32,
 ) -> Option<Fault>
-    ensures { λ r. ⌜ r ≡ first-no (opening-questions (opens-on (S·Register .shows (now (securities .entry))) (C·Register .shows (now (cash .entry))) «first_day»)) ⌝ }
+    ensures { λ r. ⌜ r ≡ failed-question (opens-on (S·Register .shows (now (securities .entry))) (C·Register .shows (now (cash .entry))) «first_day») ⌝ }
 {
     let accounts = securities.accounts();
     if accounts != cash.accounts() || accounts < 2 || accounts > 32 {
@@ -37,18 +46,50 @@ fn failed_question<S: Register, C: Register>(
     None
 }
 
+impl Daybook {
+    // The first morning of a book, with room for all the movements that it can hold.
+    fn new(heap: Global, accounts: u8, kinds: u8, day: u32) -> Result<Daybook, AllocError>
+        ensures { λ r. ⌜ made r (λ d. daily-of d ≡ morning accounts kinds day) ⌝ }
+    {
+        let movements = Vec::with_capacity(heap, MOST_MOVEMENTS)?;
+        Ok(Daybook {
+            accounts,
+            kinds,
+            day,
+            half: Half::Morning,
+            highest: 0,
+            terms: Terms::new(),
+            movements,
+        })
+    }
+}
+
+// A number that is noted where the opening passed, 0 where it failed.
+fn noted(failed: Option<Fault>, number: usize) -> u8
+    requires { ⌜ (failed ≡ None → number < 256) ⌝ }
+    ensures { λ r. ⌜ r ≡ noted-number failed number ⌝ }
+{
+    match failed {
+        None => number as u8,
+        Some(_) => 0,
+    }
+}
+
 impl<S: Register, C: Register> Book<S, C> {
-    // Opens a book on two registers. Where a question of the opening fails, every call is refused by its number.
-    pub fn open(securities: S, cash: C, first_day: u32) -> Self
-        ensures { λ r. ⌜ state-of (S·Register .shows) (C·Register .shows) r ≡ opened (opens-on (S·Register .shows securities) (C·Register .shows cash) «first_day») ⌝ }
+    // Opens a book on two registers. Where a question of the opening fails, every call is refused by its number. Only want of memory stops an opening.
+    pub fn open(heap: Global, securities: S, cash: C, first_day: u32) -> Result<Self, AllocError>
+        ensures { λ r. ⌜ made r (λ b. state-of (S·Register .shows) (C·Register .shows) b ≡ opened (opens-on (S·Register .shows securities) (C·Register .shows cash) «first_day»)) ⌝ }
     {
         let failed = failed_question(&securities, &cash, first_day);
-        Book {
+        let accounts = noted(failed, securities.accounts());
+        let kinds = noted(failed, securities.kinds());
+        let daybook = Daybook::new(heap, accounts, kinds, first_day)?;
+        Ok(Book {
             failed,
-            day: first_day,
+            daybook,
             securities,
             cash,
-        }
+        })
     }
 
     // Closes the book for good and gives the registers back.
@@ -57,7 +98,7 @@ impl<S: Register, C: Register> Book<S, C> {
     {
         let Book {
             failed: _,
-            day: _,
+            daybook: _,
             securities,
             cash,
         } = self;

@@ -9,6 +9,8 @@ use Rattle.std.specs.declared.option.Option.{Option}
 use Rattle.std.specs.declared.option.Option.the-variants.{Some, None}
 use Rattle.std.specs.declared.result.Result.{Result}
 use Rattle.std.specs.declared.result.Result.the-variants.{Ok, Err}
+use Rattle.std.specs.Results.{isOk}
+use Rattle.register.specs.Answers.{Changed}
 use Rattle.fault.specs.declared.fault.Fault.{Fault}
 use Rattle.fault.specs.Questions.{Question, first-no, unless, asked}
 
@@ -71,3 +73,10 @@ asked-value qs v w {x} e =
     let parts = unless-none (first-no qs) (Ok v) x e in
     let same : v ≡ x = let h = parts .1 in cc in
     (same, ap (λ o. unless o (Ok w)) (parts .0))
+
+-- a call that was refused, or accepted
+pub refused : {A X : Type 0} {before done : X} {answer : Result A Fault} {f : Fault} (r : Result A Fault) → r ≡ Err f → answer ≡ Err f → Changed before answer done r before
+refused {A} {X} {before} {done} {answer} {f} r p q = record { answered = p ∙ sym q; after = ap (λ x. cond (isOk x) done before) (sym q) }
+
+pub accepted : {A X : Type 0} {before done left : X} {answer : Result A Fault} {v : A} → answer ≡ Ok v → left ≡ done → Changed before answer done (Ok v) left
+accepted {A} {X} {before} {done} {left} {answer} {v} p q = record { answered = sym p; after = q ∙ ap (λ x. cond (isOk x) done before) (sym p) }

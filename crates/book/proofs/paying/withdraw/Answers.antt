@@ -1,0 +1,14 @@
+use mathlib.Core.Path.{sym}
+use mathlib.Core.List.{[], _∷_}
+use Rattle.std.proofs.shelf.Results.{err-from-errBy}
+use Rattle.fault.proofs.Asking.{asked-stops, refused}
+use Rattle.book.specs.Paying.{payment-questions, account-holds}
+use Rattle.book.proofs.paying.withdraw.Needs as need
+
+pub returns-in-Break-payable : need.returns-in-Break-payable
+returns-in-Break-payable g c =
+    let h = g .R·Register .shows (c .args .register .now) in
+    let p = err-from-errBy (c .from-residual .result) (c .from-residual .ensures .1) in
+    refused (c .from-residual .result) (rw (p .2) at (p .1))
+    (asked-stops (payment-questions h (c .args .place) (c .args .amount)) (account-holds h (c .args .place) (c .args .amount) ∷ []) tt tt
+    (sym (c .in-Break-payable .ensures tt)))

@@ -5,21 +5,17 @@ use mathlib.Core.Bool.{Bool, true, false, cond, _&&_}
 use Prim.Native.Nat.{ℕ}
 use native.Mathlib.Omega.{arith}
 use Rattle.std.proofs.shelf.Tests.{and-parts}
-use Rattle.std.specs.declared.option.Option.{Option}
 use Rattle.std.specs.declared.option.Option.the-variants.{Some, None}
-use Rattle.std.specs.declared.result.Result.{Result}
 use Rattle.std.specs.declared.result.Result.the-variants.{Ok, Err}
 use Rattle.fault.specs.declared.fault.Fault.{Fault}
 use Rattle.book.specs.State.{State}
-use Rattle.fault.specs.Questions.{Question, first-no, unless, asked}
+use Rattle.fault.specs.Questions.{Question, first-no, asked}
+use Rattle.fault.proofs.Asking.{unless-fault, unless-none}
 use Rattle.history.specs.declared.call.Call.{Call}
-use Rattle.history.specs.declared.call.Call.the-variants.{PayIn, PayOut, Tell}
+use Rattle.history.specs.declared.call.Call.the-variants.{PayIn, PayOut, Terms, Trade, Consent, Cancel, Tell}
 use Rattle.history.specs.declared.call.Answer.{Answer}
 use Rattle.history.specs.Step.{questions, result, answer}
 use Rattle.history.specs.Law.{of-a-call}
-
-pub ok-is-no-error : {A E : Type 0} {v : A} {e : E} {r : Result A E} → r ≡ Ok v → r ≡ Err e → ⊥
-ok-is-no-error {A} {E} {v} {e} {r} p q = let z : _≡_ {A = ℕ} 0 1 = cc in omega arith
 
 -- every fault that these questions can give is a call's own
 own-faults : List Question → Bool
@@ -40,12 +36,11 @@ call-faults : (s : State) (c : Call) → own-faults (questions s c) ≡ true
 unfolding own-faults
 call-faults s (PayIn p n) = refl
 call-faults s (PayOut p n) = refl
+call-faults s (Terms t) = refl
+call-faults s (Trade t) = refl
+call-faults s (Consent n p) = refl
+call-faults s (Cancel n) = refl
 call-faults s (Tell p) = refl
-
--- the fault of a refusal comes from the opening or from the questions
-unless-fault : {A : Type 0} (o : Option Fault) (v : A) (f : Fault) → unless o (Ok v) ≡ Err f → o ≡ Some f
-unless-fault None v f e = absurd (ok-is-no-error refl e)
-unless-fault (Some g) v f e = let same : g ≡ f = cc in ap Some same
 
 -- after a passed opening a refusal has a number of the call's own
 pub refused-by-call : (s : State) (c : Call) (f : Fault) → s .failed ≡ None → answer s c ≡ Err f → of-a-call f ≡ true
@@ -58,10 +53,6 @@ pub refused-by-opening : (s : State) (c : Call) (f : Fault) → s .failed ≡ So
 refused-by-opening s c f failed = rw failed
 
 -- an accepted call was asked every question and none was answered no
-unless-none : {A : Type 0} (o : Option Fault) (r : Result A Fault) (v : A) → unless o r ≡ Ok v → (o ≡ None) × (r ≡ Ok v)
-unless-none None r v e = (refl, e)
-unless-none (Some g) r v e = absurd (ok-is-no-error e refl)
-
 pub accepted-asked : (s : State) (c : Call) (v : Answer) → answer s c ≡ Ok v → first-no (questions s c) ≡ None
 accepted-asked s c v e =
     unless-none (first-no (questions s c)) (Ok (result s c)) v (unless-none (s .failed) (asked (questions s c) (result s c)) v e .1) .0

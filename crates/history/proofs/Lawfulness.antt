@@ -1,124 +1,180 @@
 -- Every history is lawful.
 use mathlib.Core.Path.{_≡_, refl, sym, _∙_, ap}
 use mathlib.Core.List.{List, [], _∷_}
-use mathlib.Core.Bool.{Bool, true, false, cond, _&&_}
-use Prim.Native.Nat.{ℕ, zero, suc, _+_, _-_, _<_, _≤_}
+use mathlib.Core.Bool.{Bool, true, false, cond}
+use Prim.Native.Nat.{ℕ, _+_, _<_, _≤_}
 use native.Mathlib.Omega.{arith}
-use lib.Dec.{eqb}
-use lib.IntN.{ℤ, pos, negℤ, _+ℤ_}
-use lib.Signed.{_≤ℤ_}
-use Rattle.std.proofs.shelf.Signed.{ints}
+use Rattle.std.proofs.shelf.Tests.{cond-false, false≢true}
 use Rattle.std.proofs.shelf.Ways.{tells}
-use Rattle.std.proofs.shelf.Tests.{cond-false}
+use Rattle.std.specs.Options.{isSome}
 use Rattle.std.specs.Results.{isOk}
 use Rattle.std.specs.shelf.Lists.{All}
+use Rattle.std.specs.declared.option.Option.{Option}
 use Rattle.std.specs.declared.option.Option.the-variants.{Some, None}
 use Rattle.std.specs.declared.result.Result.{Result}
 use Rattle.std.specs.declared.result.Result.the-variants.{Ok, Err}
 use Rattle.fault.specs.declared.fault.Fault.{Fault}
-use Rattle.book.specs.declared.place.Place.{Place}
-use Rattle.book.specs.State.{State, holdings}
-use Rattle.fault.specs.Questions.{first-no}
-use Rattle.book.specs.Opening.{Opening, opened}
-use Rattle.book.specs.Paying.{pay-in-questions, pay-out-questions, paid-in, paid-out, amount-at}
+use Rattle.fault.specs.declared.fault.Fault.the-variants.{NotOnBook, CancelTooLate}
+use Rattle.fault.specs.Questions.{first-no, ask, asked, unless}
+use Rattle.fault.proofs.Asking.{all-hold}
+use Rattle.movement.specs.declared.movement.Movement.{Movement}
+use Rattle.book.specs.State.{State}
+use Rattle.movement.specs.Settings.{terms-after}
+use Rattle.book.specs.Daily.{Daily, on-book, whether, cancellable}
+use Rattle.book.specs.Opening.{Opening, opened, failed-question}
 use Rattle.history.specs.declared.call.Call.{Call}
-use Rattle.history.specs.declared.call.Call.the-variants.{PayIn, PayOut, Tell}
+use Rattle.history.specs.declared.call.Call.the-variants.{PayIn, PayOut, Terms, Trade, Consent, Cancel, Tell}
 use Rattle.history.specs.declared.call.Answer.{Answer}
+use Rattle.history.specs.declared.call.Answer.the-variants.{Done}
 use Rattle.history.specs.Step.{questions, answer, after, effect, Stepped}
 use Rattle.history.specs.History.{Event, event, Leads, opens, goes}
-use Rattle.history.specs.Statement.{Statement, at-opening, is-place, booked, read-call, statement}
-use Rattle.history.specs.Law.{Lawful, paid, paid-by, failed-question, AnsweredByCall, Extends, Performed}
-use Rattle.book.proofs.Asking.{pay-in-payable, pay-out-payable}
-use Rattle.history.proofs.Answering.{ok-is-no-error, refused-by-call, refused-by-opening, accepted-asked}
-use Rattle.history.proofs.Booking.{Booked, booked-at}
+use Rattle.history.specs.Statement.{Statement, statement, read-call}
+use Rattle.history.specs.Law.{Lawful, LawfulAnswers, LawfulTrades, AnsweredByCall, Extends, Performed, over, traded-by, cancelled-by, got-50, on-the-book}
+use Rattle.history.proofs.Numbers.{count, counted-once}
+use Rattle.history.proofs.Answering.{refused-by-call, refused-by-opening, accepted-asked}
+use Rattle.history.proofs.Amounts.{opened-amounts, nothing-booked, accepted-amounts}
+use Rattle.history.proofs.Counts.{Counted, neither, consented-counted, cancelled-counted, entered-counted}
 
-opened-lawful : (o : Opening) → Lawful o [] (opened o)
-opened-lawful o = record {
-  accounts = λ side k a h. refl;
-  covered = λ side k a h. omega (arith, ints);
-  sums = λ side k h. omega (arith, ints);
-  depository = λ side k h. refl;
-  kinds = λ side h. refl;
-  numbered = λ side h. refl;
-  for-good = refl;
-  passed = λ e. tt;
-  refused = λ f e. tt;
+-- what the cancel of a number would get tells whether it is on the book
+told-by-cancel : (s : State) (n : ℕ) → s .failed ≡ None → on-the-book s n ≡ cond (isSome (on-book n (s .daily .movements))) 1 0
+told-by-cancel s n passed =
+    ap (λ o. cond (got-50 (unless o (asked (questions s (Cancel n)) Done))) 0 1) passed ∙ by-book (on-book n (s .daily .movements))
+  where
+    by-test : (b : Bool) → _≡_ {A = ℕ} (cond (got-50 (asked (ask b CancelTooLate ∷ []) Done)) 0 1) 1
+    by-test true = refl
+    by-test false = refl
+
+    by-book : (o : Option Movement) → _≡_ {A = ℕ} (cond (got-50 (asked (ask (isSome o) NotOnBook ∷ (ask (whether (cancellable (s .daily)) o) CancelTooLate ∷ [])) Done)) 0 1) (cond (isSome o) 1 0)
+    by-book (Some m) = by-test (cancellable (s .daily) m)
+    by-book None = refl
+
+-- the law, with what its proof needs besides
+record Sound (o : Opening) (h : List Event) (s : State) : Type 0 where
+  pub lawful : Lawful o h s
+  pub counted : Counted h (s .daily) (statement o h)
+
+lawful-trades : (o : Opening) (h : List Event) (s : State) → s .failed ≡ failed-question o → Counted h (s .daily) (statement o h) → LawfulTrades o h s
+lawful-trades o h s good c = record {
+  placed = λ passed n.
+      let told = told-by-cancel s n (good ∙ passed) in
+      let counts = c .counts n in
+      let once = c .once n in
+      let single = counted-once n (s .daily .movements) (omega arith) in
+      omega arith;
+  once = c .once;
+  noted = c .noted;
+  terms = c .terms;
 }
 
--- the answer of a call is one that the law allows
-module _ (o : Opening) (h : List Event) (s : State) (c : Call) (lawful : Lawful o h s) where
-  answers-own : (r : Result Answer Fault) → answer s c ≡ r → failed-question o ≡ None → All AnsweredByCall (event c r ∷ h)
-  answers-own r e passed = (λ f d. refused-by-call s c f (lawful .for-good ∙ passed) (e ∙ d), lawful .passed passed)
-
-  answers-opening : (r : Result Answer Fault) → answer s c ≡ r → (f : Fault) → failed-question o ≡ Some f → All (λ e. e .answer ≡ Err f) (event c r ∷ h)
-  answers-opening r e f failed = (sym e ∙ refused-by-opening s c f (lawful .for-good ∙ failed), lawful .refused f failed)
-
-  refused-lawful : (f : Fault) → answer s c ≡ Err f → Lawful o (event c (Err f) ∷ h) s
-  refused-lawful f e = record {
-    accounts = lawful .accounts;
-    covered = lawful .covered;
-    sums = λ side k l. let before = lawful .sums side k l in omega (arith, ints);
-    depository = lawful .depository;
-    kinds = lawful .kinds;
-    numbered = lawful .numbered;
-    for-good = lawful .for-good;
-    passed = answers-own (Err f) e;
-    refused = answers-opening (Err f) e;
-  }
-
-  -- an accepted call that books z at one place of a participant
-  booked-lawful : (v : Answer) (p : Place) (z : ℤ) (t : State) → answer s c ≡ Ok v → 1 ≤ p .account → t .failed ≡ s .failed → ((side : ℕ) → side < 2 → Booked (holdings s side) (eqb side (p .side)) (p .kind) (p .account) z (holdings t side)) → read-call c (statement o h) ≡ booked p z (statement o h) → ((side k : ℕ) → paid c side k ≡ cond (eqb side (p .side) && eqb k (p .kind)) z (pos 0)) → Lawful o (event c (Ok v) ∷ h) t
-  booked-lawful v p z t e participant same books reads pays = record {
-    accounts = accounts-after;
-    covered = λ side k a l. let at = accounts-after side k a l in omega (arith, ints);
-    sums = λ side k l. let before = lawful .sums side k l in let now = books side l .sums k in let pay = pays side k in omega (arith, ints);
-    depository = λ side k l. let before = lawful .depository side k l in let now = books side l .amounts k 0 in grind (arith, tells, ints);
-    kinds = λ side l. books side l .kinds ∙ lawful .kinds side l;
-    numbered = λ side l. books side l .accounts ∙ lawful .numbered side l;
-    for-good = same ∙ lawful .for-good;
-    passed = answers-own (Ok v) e;
-    refused = answers-opening (Ok v) e;
-  }
-    where
-      accounts-after : (side k a : ℕ) → side < 2 → pos (holdings t side .amount k a) ≡ read-call c (statement o h) .amount side k a
-      accounts-after side k a l =
-          books side l .amounts k a
-          ∙ ap (λ x. x +ℤ cond (is-place p side k a) z (pos 0)) (lawful .accounts side k a l)
-          ∙ ap (λ r. r .amount side k a) (sym reads)
-
-accepted-lawful : (o : Opening) (h : List Event) (s : State) (c : Call) (lawful : Lawful o h s) (v : Answer) → answer s c ≡ Ok v → first-no (questions s c) ≡ None → Lawful o (event c (Ok v) ∷ h) (effect s c)
-accepted-lawful o h s (PayIn p n) lawful v e asked =
-    let fits = pay-in-payable s p n asked in
-    booked-lawful o h s (PayIn p n) lawful v p (pos n) (paid-in s p n) e (fits .participant) refl
-    (booked-at s (p .side) (p .kind) (p .account) (amount-at s p + n) (pos n) (fits .side) (fits .account) (omega (arith, ints)))
-    refl
-    (λ side k. refl)
-accepted-lawful o h s (PayOut p n) lawful v e asked =
-    let fits = pay-out-payable s p n asked .0 in
-    let holds = pay-out-payable s p n asked .1 in
-    booked-lawful o h s (PayOut p n) lawful v p (negℤ (pos n)) (paid-out s p n) e (fits .participant) refl
-    (booked-at s (p .side) (p .kind) (p .account) (amount-at s p - n) (negℤ (pos n)) (fits .side) (fits .account) (omega (arith, ints)))
-    refl
-    (λ side k. refl)
-accepted-lawful o h s (Tell p) lawful v e asked = record {
-  accounts = lawful .accounts;
-  covered = lawful .covered;
-  sums = λ side k l. let before = lawful .sums side k l in omega (arith, ints);
-  depository = lawful .depository;
-  kinds = lawful .kinds;
-  numbered = lawful .numbered;
-  for-good = lawful .for-good;
-  passed = answers-own o h s (Tell p) lawful (Ok v) e;
-  refused = answers-opening o h s (Tell p) lawful (Ok v) e;
+opened-sound : (o : Opening) → Sound o [] (opened o)
+opened-sound o = record {
+  lawful = record {
+    amounts = opened-amounts o;
+    answers = record { for-good = refl; passed = λ e. tt; refused = λ f e. tt };
+    trades = lawful-trades o [] (opened o) refl nothing-yet;
+  };
+  counted = nothing-yet;
 }
+  where
+    nothing-yet : Counted [] (opened o .daily) (statement o [])
+    nothing-yet = record {
+      counts = λ n. refl;
+      fresh = λ n above. refl;
+      once = λ n. omega arith;
+      recorded = λ n. refl;
+      noted = λ n m e. let z : _≡_ {A = ℕ} 0 1 = cc in absurd (omega arith);
+      terms = refl;
+      half = refl;
+    }
 
-step-lawful : (o : Opening) (h : List Event) (s : State) (c : Call) (lawful : Lawful o h s) (r : Result Answer Fault) → answer s c ≡ r → Lawful o (event c r ∷ h) (cond (isOk r) (effect s c) s)
-step-lawful o h s c lawful (Ok v) e = accepted-lawful o h s c lawful v e (accepted-asked s c v e)
-step-lawful o h s c lawful (Err f) e = refused-lawful o h s c lawful f e
+module _ (o : Opening) (h : List Event) (s : State) (c : Call) (sound : Sound o h s) where
+  -- the answer is one that the law allows
+  answers-after : (r : Result Answer Fault) (t : State) → answer s c ≡ r → t .failed ≡ s .failed → LawfulAnswers o (event c r ∷ h) t
+  answers-after r t e same =
+      let before = sound .lawful .answers in
+      record {
+        for-good = same ∙ before .for-good;
+        passed = λ passed. (λ f d. refused-by-call s c f (before .for-good ∙ passed) (e ∙ d), before .passed passed);
+        refused = λ f failed. (sym e ∙ refused-by-opening s c f (before .for-good ∙ failed), before .refused f failed);
+      }
+
+  refused-sound : (f : Fault) → answer s c ≡ Err f → Sound o (event c (Err f) ∷ h) s
+  refused-sound f e =
+      let before = sound .counted in
+      let counted : Counted (event c (Err f) ∷ h) (s .daily) (statement o h) =
+      neither h (s .daily) (statement o h) before (event c (Err f)) (s .daily) (statement o h) (λ n. refl) (λ n. refl) refl (λ n. refl) (λ n. refl) (before .noted) (before .terms) (before .half) in
+      record {
+        lawful = record {
+          amounts = nothing-booked o h s (sound .lawful .amounts) (event c (Err f)) s (λ side. refl) refl (λ side k. refl);
+          answers = answers-after (Err f) s e refl;
+          trades = lawful-trades o (event c (Err f) ∷ h) s (sound .lawful .answers .for-good) counted;
+        };
+        counted = counted;
+      }
+
+  -- a call that enters, cancels and notes no trade
+  unlisted : (v : Answer) (d : Daily) (t : Statement) → ((n : ℕ) → traded-by c n ≡ 0) → ((n : ℕ) → cancelled-by c n ≡ 0) → d .highest ≡ s .daily .highest → d .movements ≡ s .daily .movements → t .trades ≡ statement o h .trades → d .terms ≡ t .terms → d .half ≡ t .half → Counted (event c (Ok v) ∷ h) d t
+  unlisted v d t enters cancels highest movements trades terms half =
+      let before = sound .counted in
+      neither h (s .daily) (statement o h) before (event c (Ok v)) d t enters cancels highest
+      (λ n. ap (count n) movements)
+      (λ n. ap (count n) trades)
+      (λ n m e. ap (on-book n) trades ∙ before .noted n m (ap (on-book n) (sym movements) ∙ e))
+      terms
+      half
+
+some-of : (o : Option Movement) → isSome o ≡ true → (m : Movement) × (o ≡ Some m)
+some-of (Some m) e = (m, refl)
+some-of None e = absurd (false≢true e)
+
+effect-counted : (o : Opening) (h : List Event) (s : State) (c : Call) (sound : Sound o h s) (v : Answer) → first-no (questions s c) ≡ None → Counted (event c (Ok v) ∷ h) (effect s c .daily) (read-call c (statement o h))
+effect-counted o h s (PayIn p n) sound v passed =
+    unlisted o h s (PayIn p n) sound v _ _ (λ n. refl) (λ n. refl) refl refl refl (sound .counted .terms) (sound .counted .half)
+effect-counted o h s (PayOut p n) sound v passed =
+    unlisted o h s (PayOut p n) sound v _ _ (λ n. refl) (λ n. refl) refl refl refl (sound .counted .terms) (sound .counted .half)
+effect-counted o h s (Terms t) sound v passed =
+    unlisted o h s (Terms t) sound v _ _ (λ n. refl) (λ n. refl) refl refl refl (ap (λ a. terms-after a t) (sound .counted .terms)) (sound .counted .half)
+effect-counted o h s (Trade t) sound v passed =
+    entered-counted h (s .daily) (statement o h) (sound .counted) t v (let all = all-hold (questions s (Trade t)) passed in grind (arith, tells))
+effect-counted o h s (Consent n p) sound v passed = consented-counted h (s .daily) (statement o h) (sound .counted) n p v
+effect-counted o h s (Cancel n) sound v passed =
+    let found = some-of (on-book n (s .daily .movements)) (all-hold (questions s (Cancel n)) passed .0) in
+    cancelled-counted h (s .daily) (statement o h) (sound .counted) n v (found .0) (found .1)
+effect-counted o h s (Tell p) sound v passed =
+    unlisted o h s (Tell p) sound v _ _ (λ n. refl) (λ n. refl) refl refl refl (sound .counted .terms) (sound .counted .half)
+
+effect-good : (s : State) (c : Call) → effect s c .failed ≡ s .failed
+effect-good s (PayIn p n) = refl
+effect-good s (PayOut p n) = refl
+effect-good s (Terms t) = refl
+effect-good s (Trade t) = refl
+effect-good s (Consent n p) = refl
+effect-good s (Cancel n) = refl
+effect-good s (Tell p) = refl
+
+accepted-sound : (o : Opening) (h : List Event) (s : State) (c : Call) (sound : Sound o h s) (v : Answer) → answer s c ≡ Ok v → Sound o (event c (Ok v) ∷ h) (effect s c)
+accepted-sound o h s c sound v e =
+    let passed = accepted-asked s c v e in
+    let counted = effect-counted o h s c sound v passed in
+    record {
+      lawful = record {
+        amounts = accepted-amounts o h s (sound .lawful .amounts) c v passed;
+        answers = answers-after o h s c sound (Ok v) (effect s c) e (effect-good s c);
+        trades = lawful-trades o (event c (Ok v) ∷ h) (effect s c) (effect-good s c ∙ sound .lawful .answers .for-good) counted;
+      };
+      counted = counted;
+    }
+
+step-sound : (o : Opening) (h : List Event) (s : State) (c : Call) (sound : Sound o h s) (r : Result Answer Fault) → answer s c ≡ r → Sound o (event c r ∷ h) (cond (isOk r) (effect s c) s)
+step-sound o h s c sound (Ok v) e = accepted-sound o h s c sound v e
+step-sound o h s c sound (Err f) e = refused-sound o h s c sound f e
+
+all-sound : {o : Opening} {h : List Event} {s : State} → Leads o h s → Sound o h s
+all-sound {o} opens = opened-sound o
+all-sound {o} (goes {h} {s} c before) = step-sound o h s c (all-sound before) (answer s c) refl
 
 pub all-lawful : {o : Opening} {h : List Event} {s : State} → Leads o h s → Lawful o h s
-all-lawful {o} opens = opened-lawful o
-all-lawful {o} (goes {h} {s} c before) = step-lawful o h s c (all-lawful before) (answer s c) refl
+all-lawful leads = all-sound leads .lawful
 
 extends : (s : State) (c : Call) → Extends s (event c (answer s c)) (after s c)
 extends s c o h before = let leads : Leads o (event c (answer s c) ∷ h) (after s c) = goes c before in (leads, all-lawful leads)

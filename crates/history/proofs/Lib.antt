@@ -1,4 +1,7 @@
+pub mod Numbers
 pub mod Answering
 pub mod Booking
-pub mod Histories
+pub mod Amounts
+pub mod Counts
 pub mod Lawfulness
+pub mod Histories

@@ -20,6 +20,22 @@ fn dispatch<B: Settlement>(book: &mut B, call: Call) -> Result<Answer, Fault>
             book.pay_out(place, amount)?;
             Ok(Answer::Done)
         }
+        Call::Terms(setting) => {
+            book.set_terms(setting)?;
+            Ok(Answer::Done)
+        }
+        Call::Trade(trade) => {
+            book.trade(trade)?;
+            Ok(Answer::Done)
+        }
+        Call::Consent(number, participant) => {
+            book.consent(number, participant)?;
+            Ok(Answer::Done)
+        }
+        Call::Cancel(number) => {
+            book.cancel(number)?;
+            Ok(Answer::Done)
+        }
         Call::Tell(place) => Ok(Answer::Amount(book.tell(place)?)),
     }
 }

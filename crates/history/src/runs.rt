@@ -21,7 +21,7 @@ pub struct Finished<S: Register, C: Register> {
     pub answers: Vec<Result<Answer, Fault>>,
 }
 
-// Opens a book and performs the calls one after the other. Only want of memory for the answers can stop it.
+// Opens a book and performs the calls one after the other. Only want of memory, before the first call, can stop it.
 pub fn run<S: Register, C: Register>(
     heap: Global,
     securities: S,
@@ -31,7 +31,7 @@ pub fn run<S: Register, C: Register>(
 ) -> Result<Finished<S, C>, AllocError>
     ensures { λ r. ⌜ made r (λ f. Ran (opens-on (S·Register .shows securities) (C·Register .shows cash) «first_day») (now (calls .entry)) (vec-items (f .answers)) (state-of (S·Register .shows) (C·Register .shows) (f .book))) ⌝ }
 {
-    let mut book = Book::open(securities, cash, first_day);
+    let mut book = Book::open(heap, securities, cash, first_day)?;
     let mut answers = Vec::with_capacity(heap, calls.len())?;
     for call in calls {
         answers.push_reserved(perform(&mut book, *call));

@@ -27,5 +27,5 @@ returns g c =
     let o = opens-on (g .S·Register .shows (c .args .securities)) (g .C·Register .shows (c .args .cash)) (c .args .first-day) in
     let state = state-of (g .S·Register .shows) (g .C·Register .shows) in
     let leads : Leads o (history (c .args .calls .now) (vec-items (c .loop-call .answers))) (state (c .loop-call .book)) =
-    leads-all o (c .args .calls .now) (c .loop-call .call-index) _ _ (search needs) (c .loop-call .inv .2 o (c .open-book .ensures)) in
+    leads-all o (c .args .calls .now) (c .loop-call .call-index) _ _ (search needs) (c .loop-call .inv .2 o (c .in-Continue-book .ensures tt)) in
     record { answered = search needs; leads = leads; lawful = all-lawful leads }

@@ -58,7 +58,7 @@ fn end_line<B: Settlement>(
     finish(book, pending, out)
 }
 
-// Answers each line that ends in a chunk of text, and keeps what is left for the next one. Where memory is wanting, the first of the lines are answered.
+// Answers each line that ends in a chunk of text, and keeps what is left for the next one. Where memory is wanting, the first of the lines are answered, and nothing is said of what is kept.
 pub fn feed<B: Settlement>(
     book: &mut B,
     pending: &mut Partial,

@@ -32,7 +32,7 @@ loop-n-again g c = (
 pub returns : need.returns
 returns g c =
     record {
-      feeds = λ p keeps. ends (c .extend .last .self) (c .loop-n .inv .1 p keeps) (c .in-rest .ensures tt) (c .extend .ensures .keeps);
+      feeds = λ p keeps. ends (c .extend .last .self) (c .loop-n .inv .1 p keeps) (c .in-rest .ensures tt) (search needs);
       chunks = chunks-alike;
       lawful = lines-lawful;
     }

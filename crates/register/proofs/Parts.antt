@@ -1,7 +1,7 @@
 -- How the parts of a joined register sit in the whole.
-use mathlib.Core.Path.{_≡_, refl, ap, sym, _∙_}
+use mathlib.Core.Path.{_≡_, refl, ap, _∙_}
 use mathlib.Core.Bool.{Bool, true, false, cond}
-use Prim.Native.Nat.{ℕ, _+_, _-_, _<_, _≤_}
+use Prim.Native.Nat.{ℕ, _+_, _-_, _<_}
 use native.Mathlib.Omega.{arith}
 use Rattle.std.proofs.shelf.Ways.{tells}
 use Rattle.std.specs.Results.{isOk}
@@ -46,8 +46,8 @@ take-through {whole} {part} {part′} {p} {k} {a} n w c =
     through whole (grind (arith, tells)) (w .changes (part .amount p a - n) ∙ ap (λ x. with-amount (whole part) k a (x - n)) (w .same)) c
 
 -- a kind of the first register
-pub first-within : (f s : Holdings) (k a : ℕ) → k < f .kinds → Shown f s k a → Within (λ f. joined-holdings f s) f k k a
-first-within f s k a in-first shown = record {
+pub first-within : {f s : Holdings} {k a : ℕ} → Shown f s k a → k < f .kinds → Within (λ f. joined-holdings f s) f k k a
+first-within {f} {s} {k} {a} shown in-first = record {
   part-kind = in-first;
   part-account = omega arith;
   kind = shown .kind;
@@ -57,8 +57,8 @@ first-within f s k a in-first shown = record {
 }
 
 -- a kind of the second register
-pub second-within : (f s : Holdings) (p k a : ℕ) → f .kinds + p ≡ k → Shown f s k a → Within (joined-holdings f) s p k a
-second-within f s p k a in-second shown = record {
+pub second-within : {f s : Holdings} {p k a : ℕ} → Shown f s k a → f .kinds + p ≡ k → Within (joined-holdings f) s p k a
+second-within {f} {s} {p} {k} {a} shown in-second = record {
   part-kind = omega arith;
   part-account = omega arith;
   kind = shown .kind;

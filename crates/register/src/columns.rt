@@ -1,7 +1,7 @@
 // A row of two columns: what was put and what was taken.
 ghost use mathlib.Core.Path.{_≡_};
 ghost use Prim.Native.Nat.{_+_, _-_, _≤_};
-ghost use Rattle.register.specs.Columns.{column-limit, balance, ready as ready-of, credited as credited-by, debited as debited-by, Fits};
+ghost use Rattle.register.specs.Columns.{balance, ready as ready-of, credited as credited-by, debited as debited-by, Fits};
 ghost use Rattle.register.specs.Holdings.{limit};
 use crate::register::LIMIT;
 

@@ -9,6 +9,9 @@ use fault::FaultDisplay;
 use history::Answer;
 use history::Call;
 use history::perform;
+use movement::Setting;
+use movement::Trade;
+use movement::TradeSide;
 use register::Columns;
 use register::Joined;
 use register::JoinedRegister;
@@ -35,7 +38,7 @@ fn opened(heap: Global) -> Result<Depository, AllocError> {
         debits: 0,
     };
     let euro = Turnover::new(vec![in heap; nothing; ACCOUNTS]?, 1);
-    Ok(Book::open(securities, Joined::new(litas, euro), 0))
+    Book::open(heap, securities, Joined::new(litas, euro), 0)
 }
 
 fn shares(account: u8) -> Place {
@@ -154,6 +157,60 @@ fn pay(rt: &LibcRuntime, book: &mut Depository, statement: &mut Statement) -> Re
     Ok(())
 }
 
+fn terms(member: u8, custodian: u8) -> Call {
+    Call::Terms(Setting {
+        member,
+        category: b'-',
+        securities: custodian,
+        cash: custodian,
+    })
+}
+
+fn side(member: u8, clearing: [u8; 4]) -> TradeSide {
+    TradeSide {
+        member,
+        category: b'C',
+        clearing,
+    }
+}
+
+// Member 1 sells 6 shares to member 2 for 5.00 euro, to be settled tomorrow.
+fn trade(number: u32, clearing: [u8; 4]) -> Call {
+    Call::Trade(Trade {
+        number,
+        class: b'C',
+        security: 0,
+        quantity: 6,
+        currency: 1,
+        sum: 500,
+        day: 1,
+        seller: side(1, *b"    "),
+        buyer: side(2, clearing),
+    })
+}
+
+fn deal(rt: &LibcRuntime, book: &mut Depository, statement: &mut Statement) -> Result<(), AnyError> {
+    step(rt, book, statement, "Trade 1, before any terms are set", trade(1, *b"    "))?;
+    step(rt, book, statement, "Member 1 names participant 1 for all its trades", terms(1, 1))?;
+    step(rt, book, statement, "Member 2 names participant 2 for all its trades", terms(2, 2))?;
+    step(rt, book, statement, "Trade 1: member 1 sells 6 shares to member 2 for 5.00 euro", trade(1, *b"    "))?;
+    step(rt, book, statement, "Participant 1, who gives the shares, consents", Call::Consent(1, 1))?;
+    step(rt, book, statement, "Participant 3, who has no duty, consents", Call::Consent(1, 3))?;
+    step(rt, book, statement, "Participant 2, who pays, consents", Call::Consent(1, 2))?;
+    step(rt, book, statement, "Participant 2 consents once more", Call::Consent(1, 2))?;
+    Ok(())
+}
+
+fn call_off(rt: &LibcRuntime, book: &mut Depository, statement: &mut Statement) -> Result<(), AnyError> {
+    step(rt, book, statement, "Trade 2: the same, participant 3 acting for the buyer", trade(2, *b"V003"))?;
+    step(rt, book, statement, "Participant 3 consents", Call::Consent(2, 3))?;
+    step(rt, book, statement, "Trade 2 is cancelled", Call::Cancel(2))?;
+    step(rt, book, statement, "Trade 2 is cancelled once more", Call::Cancel(2))?;
+    step(rt, book, statement, "Trade 2 is entered again", trade(2, *b"    "))?;
+    step(rt, book, statement, "Shares of participant 1, nothing being settled yet", Call::Tell(shares(1)))?;
+    Ok(())
+}
+
 fn tell_day(rt: &LibcRuntime) -> Result<(), AnyError> {
     let heap = rt.alloc();
     let mut book = opened(heap)?;
@@ -163,6 +220,8 @@ fn tell_day(rt: &LibcRuntime) -> Result<(), AnyError> {
         "A depository opens with three participants, everything 0."
     )?;
     pay(rt, &mut book, &mut statement)?;
+    deal(rt, &mut book, &mut statement)?;
+    call_off(rt, &mut book, &mut statement)?;
     println!(
         rt,
         "The account statement, worked out from the calls and answers alone:"

@@ -26,7 +26,7 @@ impl Statement {
         }
     }
 
-    // Pay-ins add, pay-outs take; a refused call leaves the statement alone.
+    // Pay-ins add, pay-outs take, nothing else moves an amount yet; a refused call leaves the statement alone.
     pub fn read(&mut self, call: Call, answer: Result<Answer, Fault>) -> Result<(), AllocError> {
         if answer.is_err() {
             return Ok(());
@@ -34,7 +34,7 @@ impl Statement {
         match call {
             Call::PayIn(place, amount) => self.enter(place, i128::from(amount)),
             Call::PayOut(place, amount) => self.enter(place, -i128::from(amount)),
-            Call::Tell(_) => Ok(()),
+            Call::Terms(_) | Call::Trade(_) | Call::Consent(_, _) | Call::Cancel(_) | Call::Tell(_) => Ok(()),
         }
     }
 

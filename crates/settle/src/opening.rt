@@ -61,5 +61,6 @@ pub fn open(heap: Global) -> Result<Book<Table, Joined<Table, Turnover>>, AllocE
 {
     let securities = securities(heap)?;
     let cash = cash(heap)?;
-    Ok(Book::open(securities, cash, 0))
+    let book = Book::open(heap, securities, cash, 0)?;
+    Ok(book)
 }

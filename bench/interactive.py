@@ -121,13 +121,235 @@ TALK = [
     (b"02010001", b"FF52"),
     (b"0201000100000000000001", b"FF52"),
     (b"02010001000000000000000100", b"FF52"),
+    (b"03", b"FF52"),
+    (b"03012D01", b"FF52"),
+    (b"03012D010101", b"FF52"),
+    (b"03002D0008000000", b"FF52"),
+    (b"04", b"FF52"),
+    (b"0400000001", b"FF52"),
+    (b"04000000014300000000000000000A0100000000000001F40000012D20202020022D202020", b"FF52"),
+    (b"04" + b"00" * 36, b"FF52"),
+    (b"04000000014300000000000000000A0100000000000001F40000012D20202020022D2020202020", b"FF50"),
+    (b"05", b"FF52"),
+    (b"0500000001", b"FF52"),
+    (b"05000000010101", b"FF52"),
+    (b"06", b"FF52"),
+    (b"06000001", b"FF52"),
+    (b"060000000101", b"FF52"),
     # None of these has changed anything.
     (b"0A010001", b"000000000000000000"),
 ]
 
 # Codes that a later unit offers; now they are refused as codes.
-LATER = [b"03", b"04", b"05", b"06", b"07", b"08", b"09", b"0B"]
+LATER = [b"07", b"08", b"09", b"0B"]
 TALK += [(code, b"FF51") for code in LATER]
+
+
+
+def trade(
+    number,
+    class_and_security="4300",
+    quantity="000000000000000A",
+    currency="01",
+    amount="00000000000001F4",
+    day="0000",
+    seller="012D20202020",
+    buyer="022D20202020",
+):
+    fields = class_and_security + quantity + currency + amount + day + seller + buyer
+    return f"04{number:08X}{fields}".encode()
+
+
+# Terms, trades, consents and cancels. Member 1 has its main category with the custodian 1, member 2
+# with 2; member 3 has its category C with 3 for the securities and 4 for the cash.
+TRADES = [
+    # Nothing is set and nothing is on the book at first.
+    (trade(1), b"FF1B"),
+    (b"050000000101", b"FF32"),
+    (b"050000000000", b"FF32"),
+    (b"0600000001", b"FF32"),
+    (b"0600000000", b"FF32"),
+    # Terms: member, category, then the custodians.
+    (b"03012D0101", b"00"),
+    (b"03022D0202", b"00"),
+    (b"0303430304", b"00"),
+    (b"03102D0707", b"00"),
+    (b"03002D0101", b"FF28"),
+    (b"03112D0101", b"FF28"),
+    (b"03FF000000", b"FF28"),
+    (b"0300630000", b"FF28"),
+    (b"0301630101", b"FF29"),
+    (b"0301200808", b"FF29"),
+    (b"0301AD0101", b"FF29"),
+    (b"0301000101", b"FF29"),
+    (b"03012D0001", b"FF2A"),
+    (b"03012D0100", b"FF2A"),
+    (b"03012D0801", b"FF2A"),
+    (b"03012D0108", b"FF2A"),
+    (b"03012DFF01", b"FF2A"),
+    # A trade on the book, consents of the giver 1 and the payer 2, and its end.
+    (b"04000000014300000000000000000A0100000000000001F40000012D20202020022D20202020", b"00"),
+    (b"050000000103", b"FF33"),
+    (b"050000000100", b"FF33"),
+    (b"050000000201", b"FF32"),
+    (b"050000000101", b"00"),
+    (b"050000000101", b"FF34"),
+    (b"050000000102", b"00"),
+    (b"050000000102", b"FF34"),
+    (b"050000000101", b"FF34"),
+    (b"050000000107", b"FF33"),
+    (b"0600000002", b"FF32"),
+    (b"0600000001", b"00"),
+    (b"0600000001", b"FF32"),
+    (b"050000000101", b"FF32"),
+    # The number is above every number accepted so far, also of those that have left.
+    (trade(0), b"FF14"),
+    (trade(1), b"FF14"),
+    (trade(1, "0000", seller="000000000000", buyer="000000000000"), b"FF14"),
+    (trade(2), b"00"),
+    (trade(2), b"FF14"),
+    (trade(1), b"FF14"),
+    # Each field at its ends and beyond; what is refused does not count as a number.
+    (trade(0xFFFFFFFF, "4200"), b"FF15"),
+    (trade(0xFFFFFFFF, "4500"), b"FF15"),
+    (trade(0xFFFFFFFF, "6304"), b"FF15"),
+    (trade(0xFFFFFFFF, "4304"), b"FF16"),
+    (trade(0xFFFFFFFF, "43FF", quantity="0000000000000000"), b"FF16"),
+    (trade(0xFFFFFFFF, quantity="0000000000000000", currency="02"), b"FF17"),
+    (trade(0xFFFFFFFF, quantity="000000E8D4A51001"), b"FF17"),
+    (trade(0xFFFFFFFF, quantity="8000000000000001"), b"FF17"),
+    (trade(0xFFFFFFFF, currency="02", amount="0000000000000000"), b"FF18"),
+    (trade(0xFFFFFFFF, currency="FF"), b"FF18"),
+    (trade(0xFFFFFFFF, amount="0000000000000000", day="001F"), b"FF19"),
+    (trade(0xFFFFFFFF, amount="000000E8D4A51001"), b"FF19"),
+    (trade(0xFFFFFFFF, amount="FFFFFFFFFFFFFFFF"), b"FF19"),
+    (trade(0xFFFFFFFF, day="001F", seller="004358585858"), b"FF1A"),
+    (trade(0xFFFFFFFF, day="0100"), b"FF1A"),
+    (trade(0xFFFFFFFF, day="FFFF"), b"FF1A"),
+    (trade(3, "4403", quantity="000000E8D4A51000", amount="000000E8D4A51000", day="001E"), b"00"),
+    (
+        trade(4, quantity="0000000000000001", currency="00", amount="0000000000000001", day="0001"),
+        b"00",
+    ),
+    # A party: its category, its terms, its clearing field; all of the seller, then of the buyer.
+    (trade(5, seller="002058585858"), b"FF1C"),
+    (trade(5, seller="01632B303031"), b"FF1C"),
+    (trade(5, seller="002D58585858"), b"FF1B"),
+    (trade(5, seller="112D20202020"), b"FF1B"),
+    (trade(5, seller="FF4320202020"), b"FF1B"),
+    (trade(5, seller="032D20202020"), b"FF1B"),
+    (trade(5, seller="034F56303031"), b"FF1B"),
+    (trade(5, seller="044320202020"), b"FF1B"),
+    (trade(5, seller="012D76303031"), b"FF1D"),
+    (trade(5, seller="012D58303031", buyer="000020202020"), b"FF1D"),
+    (trade(5, seller="012D56202020"), b"FF1D"),
+    (trade(5, seller="012D5630312F"), b"FF1D"),
+    (trade(5, seller="012D563A3031"), b"FF1D"),
+    (trade(5, seller="012D20303031"), b"FF1D"),
+    (trade(5, seller="012D00000000"), b"FF1D"),
+    (trade(5, seller="012D52304131"), b"FF1D"),
+    (trade(5, seller="012D52303031"), b"FF1E"),
+    (trade(5, seller="012D54393939"), b"FF1E"),
+    (trade(5, seller="012D56303030"), b"FF1F"),
+    (trade(5, seller="012D56303038"), b"FF1F"),
+    (trade(5, seller="012D56323537", buyer="002020202020"), b"FF1F"),
+    (trade(5, seller="012D56303130"), b"FF1F"),
+    (trade(5, buyer="022020202020"), b"FF1C"),
+    (trade(5, buyer="002D20202020"), b"FF1B"),
+    (trade(5, buyer="024358303031"), b"FF1D"),
+    (trade(5, buyer="024354303031"), b"FF1E"),
+    (trade(5, buyer="024356393939"), b"FF1F"),
+    # Who gives and who pays: the giver is 3, by its category, and the payer 7, by the main one.
+    (trade(5, seller="034320202020", buyer="104920202020"), b"00"),
+    (b"050000000504", b"FF33"),
+    (b"050000000503", b"00"),
+    (b"050000000507", b"00"),
+    # The other way round the giver is 7 and the payer 4.
+    (trade(6, seller="104D20202020", buyer="034320202020"), b"00"),
+    (b"050000000603", b"FF33"),
+    (b"050000000604", b"00"),
+    (b"050000000607", b"00"),
+    # The clearing field goes before the terms.
+    (trade(7, seller="034356303035", buyer="024F56303036"), b"00"),
+    (b"050000000703", b"FF33"),
+    (b"050000000702", b"FF33"),
+    (b"050000000705", b"00"),
+    (b"050000000706", b"00"),
+    # One that gives and pays consents once to both.
+    (trade(8, seller="022D20202020", buyer="022D20202020"), b"00"),
+    (b"050000000802", b"00"),
+    (b"050000000802", b"FF34"),
+    (b"050000000801", b"FF33"),
+    # New terms are for new trades; a category of its own goes before the main one.
+    (trade(9), b"00"),
+    (b"03012D0506", b"00"),
+    (b"0302430306", b"00"),
+    (trade(10, buyer="024320202020"), b"00"),
+    (b"050000000905", b"FF33"),
+    (b"050000000901", b"00"),
+    (b"050000000902", b"00"),
+    (b"050000000A01", b"FF33"),
+    (b"050000000A02", b"FF33"),
+    (b"050000000A03", b"FF33"),
+    (b"050000000A05", b"00"),
+    (b"050000000A06", b"00"),
+    # Every byte of a number counts.
+    (b"050000010A05", b"FF32"),
+    (b"050001000A05", b"FF32"),
+    (b"058000000A05", b"FF32"),
+    (b"060000010A", b"FF32"),
+    (b"060001000A", b"FF32"),
+    (b"068000000A", b"FF32"),
+    # A cancel takes one movement and leaves the others.
+    (b"0600000008", b"00"),
+    (b"0600000008", b"FF32"),
+    (b"050000000902", b"FF34"),
+    (b"050000000705", b"FF34"),
+    (b"050000000301", b"00"),
+    (trade(8), b"FF14"),
+    (trade(10), b"FF14"),
+    # None of these has moved an amount.
+    (b"0A000001", b"000000000000000000"),
+    (b"0A010102", b"000000000000000000"),
+    # Numbers go to the end; after the last there is none.
+    (trade(0x7FFFFFFF), b"00"),
+    (trade(0x80000000), b"00"),
+    (trade(10), b"FF14"),
+    (trade(0xFFFFFFFF), b"00"),
+    (trade(0xFFFFFFFF), b"FF14"),
+    (b"06FFFFFFFF", b"00"),
+    (trade(0xFFFFFFFF), b"FF14"),
+    (b"058000000005", b"00"),
+    (b"0680000000", b"00"),
+    (b"0680000000", b"FF32"),
+]
+
+# The book has room for 128 movements.
+ROOM = [(b"03012D0101", b"00"), (b"03022D0202", b"00")]
+ROOM += [(trade(number), b"00") for number in range(1, 129)]
+NO_ROOM = [
+    (trade(129), b"FF20"),
+    (trade(128), b"FF14"),
+    (trade(129, buyer="022D56303038"), b"FF1F"),
+    (b"050000008002", b"00"),
+    (b"050000008002", b"FF34"),
+    (b"050000008102", b"FF32"),
+    (b"050000000101", b"00"),
+    (b"0600000081", b"FF32"),
+    (b"0600000040", b"00"),
+    (trade(64), b"FF14"),
+    (trade(129), b"00"),
+    (trade(130), b"FF20"),
+    (b"050000004001", b"FF32"),
+    (b"050000008101", b"00"),
+    (b"0600000001", b"00"),
+    (b"0600000080", b"00"),
+    (trade(130), b"00"),
+    (trade(131), b"00"),
+    (trade(132), b"FF20"),
+    (b"050000004101", b"00"),
+    (b"03032D0303", b"00"),
+]
 
 # The most that may be held of one kind: a thousand times the most that may be moved, here in two
 # accounts.
@@ -273,6 +495,23 @@ def many_at_once(program):
     program.end()
 
 
+def trades(program):
+    for line, right in TRADES:
+        program.ask(line, right)
+    program.quiet("the talk")
+    program.end()
+
+
+def full_book(program):
+    program.write(b"".join(line + b"\n" for line, _ in ROOM))
+    for line, right in ROOM:
+        program.expect(line, right)
+    for line, right in NO_ROOM:
+        program.ask(line, right)
+    program.quiet("the talk")
+    program.end()
+
+
 def in_pieces(program):
     program.write(b"01010005000000")
     program.quiet("half a line")
@@ -340,6 +579,8 @@ def last_line_end(program):
 CHECKS = [
     one_at_a_time,
     many_at_once,
+    trades,
+    full_book,
     in_pieces,
     long_line,
     nothing,

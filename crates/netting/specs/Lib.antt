@@ -1,0 +1,6 @@
+pub mod Search
+pub mod Places
+pub mod Positions
+pub mod Strikes
+pub mod Rejoins
+pub mod Limits

@@ -1,0 +1,44 @@
+-- What the netting takes: up to 128 movements in rising number, 16 and 2 kinds, 32 accounts, amounts within limits.
+use mathlib.Core.Path.{_≡_}
+use mathlib.Core.Bool.{Bool, true, _&&_}
+use mathlib.Core.List.{List}
+use Prim.Native.Nat.{ℕ, suc, _+_, _-_, _≤_, _<_}
+use lib.Dec.{leb, ltb}
+use lib.ListN.{length, getD}
+use lib.IntN.{ℤ, pos, negℤ}
+use lib.Signed.{_≤ℤ_}
+use Rattle.movement.specs.declared.movement.Movement.{Movement}
+use Rattle.movement.specs.declared.party.Party.{Party}
+use Rattle.netting.specs.declared.leg.Leg.{Leg}
+use Rattle.netting.specs.Search.{allBelow}
+use Rattle.netting.specs.Places.{at, places}
+
+abbrev pub known-accounts : Party → Bool
+known-accounts party = ltb (party .securities) 32 && ltb (party .cash) 32
+
+abbrev pub fits : Movement → Bool
+fits m = ltb (m .security) 16 && ltb (m .currency) 2 && leb (m .quantity) 1000000000000 && leb (m .sum) 1000000000000 && known-accounts (m .seller) && known-accounts (m .buyer)
+
+abbrev pub rises : List Movement → ℕ → Bool
+rises movements i = ltb (at movements i .number) (at movements (i + 1) .number)
+
+abbrev pub bounded : List Movement → List ℕ → Bool
+bounded movements amounts =
+    leb (length movements) 128 && allBelow (length movements) (λ i. fits (at movements i)) && allBelow (length movements - 1) (rises movements) && allBelow places (λ p. leb (getD amounts p 0) 1000000000000000)
+
+-- the same, as facts
+pub record Bounded (movements : List Movement) (amounts : List ℕ) : Type 0 where
+  pub few : length movements ≤ 128
+  pub fit : (i : ℕ) → i < length movements → fits (at movements i) ≡ true
+  pub rising : (i : ℕ) → i + 1 < length movements → at movements i .number < at movements (i + 1) .number
+  pub small : (p : ℕ) → p < 576 → getD amounts p 0 ≤ 1000000000000000
+
+-- within n of 0
+pub record Near (n : ℕ) (z : ℤ) : Type 0 where
+  pub above : negℤ (pos n) ≤ℤ z
+  pub below : z ≤ℤ pos n
+
+pub record Leg-fits (leg : Leg) : Type 0 where
+  pub from : leg .from < 576
+  pub to : leg .to < 576
+  pub amount : leg .amount ≤ 1000000000000

@@ -1,0 +1,48 @@
+// The legs of a movement.
+ghost use mathlib.Core.Path.{_≡_};
+ghost use Prim.Native.Nat.{_<_};
+ghost use Rattle.netting.specs.Places.{securities-leg, cash-leg, reversed as reversed-leg};
+use movement::Movement;
+
+// An amount that leaves one place and enters another.
+#[derive(Clone, Copy)]
+pub struct Leg {
+    pub from: usize,
+    pub to: usize,
+    pub amount: u64,
+}
+
+impl Leg {
+    pub fn of_securities(m: &Movement) -> Leg
+        ensures { λ r. ⌜ r ≡ securities-leg (now (m .entry)) ⌝ }
+    {
+        let row = 32 * usize::from(m.security);
+        Leg {
+            from: row + usize::from(m.giver()),
+            to: row + usize::from(m.receiver()),
+            amount: m.quantity,
+        }
+    }
+
+    pub fn of_cash(m: &Movement) -> Leg
+        ensures { λ r. ⌜ r ≡ cash-leg (now (m .entry)) ⌝ }
+    {
+        let row = 32 * (16 + usize::from(m.currency));
+        Leg {
+            from: row + usize::from(m.payer()),
+            to: row + usize::from(m.payee()),
+            amount: m.sum,
+        }
+    }
+
+    // The same the other way.
+    pub fn reversed(self) -> Leg
+        ensures { λ r. ⌜ r ≡ reversed-leg self ⌝ }
+    {
+        Leg {
+            from: self.to,
+            to: self.from,
+            amount: self.amount,
+        }
+    }
+}

@@ -1,0 +1,5 @@
+// Netting: which movements of a package settle.
+pub mod leg;
+pub mod positions;
+
+pub use leg::Leg;

@@ -27,9 +27,12 @@ bounded movements amounts =
     leb (length movements) 128 && allBelow (length movements) (λ i. fits (at movements i)) && allBelow (length movements - 1) (rises movements) && allBelow places (λ p. leb (getD amounts p 0) 1000000000000000)
 
 -- the same, as facts
-pub record Bounded (movements : List Movement) (amounts : List ℕ) : Type 0 where
+pub record Fitting (movements : List Movement) : Type 0 where
   pub few : length movements ≤ 128
   pub fit : (i : ℕ) → i < length movements → fits (at movements i) ≡ true
+
+pub record Bounded (movements : List Movement) (amounts : List ℕ) : Type 0 where
+  pub fitting : Fitting movements
   pub rising : (i : ℕ) → i + 1 < length movements → at movements i .number < at movements (i + 1) .number
   pub small : (p : ℕ) → p < 576 → getD amounts p 0 ≤ 1000000000000000
 
@@ -37,6 +40,10 @@ pub record Bounded (movements : List Movement) (amounts : List ℕ) : Type 0 whe
 pub record Near (n : ℕ) (z : ℤ) : Type 0 where
   pub above : negℤ (pos n) ≤ℤ z
   pub below : z ≤ℤ pos n
+
+-- every position can take another movement
+abbrev pub Roomy : List ℤ → Type 0
+Roomy table = (p : ℕ) → p < 576 → Near 1000000000000000 (getD table p (pos 0))
 
 pub record Leg-fits (leg : Leg) : Type 0 where
   pub from : leg .from < 576

@@ -1,13 +1,15 @@
 // Positions of places, kept up to date.
 ghost use mathlib.Core.Path.{_≡_};
-ghost use mathlib.Core.Bool.{cond};
-ghost use Prim.Native.Nat.{ℕ, _≤_, _<_};
+ghost use mathlib.Core.Bool.{cond, true};
+ghost use Prim.Native.Nat.{ℕ, _+_, _<_};
 ghost use lib.Dec.{eqb};
 ghost use lib.IntN.{pos, _+ℤ_, _-ℤ_};
 ghost use lib.ListN.{length, getD};
-ghost use Rattle.netting.specs.Places.{leg-takes, leg-brings};
-ghost use Rattle.netting.specs.Limits.{Near, Leg-fits};
+ghost use Rattle.netting.specs.Places.{leg-takes, leg-brings, takes, brings};
+ghost use Rattle.netting.specs.Positions.{Kept, Posted};
+ghost use Rattle.netting.specs.Limits.{Near, Roomy, Leg-fits, Fitting, fits};
 use crate::leg::Leg;
+use movement::Movement;
 
 // How many places there are: 32 accounts of 16 kinds of securities and 2 of cash.
 pub const PLACES: usize = 576;
@@ -26,9 +28,52 @@ fn shift(positions: &mut [i64; PLACES], place: usize, by: i64)
 fn post(positions: &mut [i64; PLACES], leg: Leg)
     requires fits { ⌜ Leg-fits leg ⌝ }
     requires room { ⌜ ((p : ℕ) → p < 576 → Near 2000000000000000 (getD (now positions) p (pos 0))) ⌝ }
-    ensures { λ _. ⌜ ((p : ℕ) → getD (now (positions .exit)) p (pos 0) ≡ (getD (now (positions .entry)) p (pos 0) +ℤ pos (leg-brings leg p)) -ℤ pos (leg-takes leg p)) ⌝ }
+    ensures { λ _. ⌜ Posted (now (positions .entry)) (now (positions .exit)) (leg-brings leg) (leg-takes leg) ⌝ }
 {
     let amount = leg.amount as i64;
     shift(positions, leg.from, -amount);
     shift(positions, leg.to, amount);
+}
+
+// Posts the two legs of a movement.
+fn post_both(positions: &mut [i64; PLACES], securities: Leg, cash: Leg)
+    requires securities { ⌜ Leg-fits securities ⌝ }
+    requires cash { ⌜ Leg-fits cash ⌝ }
+    requires room { ⌜ Roomy (now positions) ⌝ }
+    ensures { λ _. ⌜ Posted (now (positions .entry)) (now (positions .exit)) (λ p. leg-brings securities p + leg-brings cash p) (λ p. leg-takes securities p + leg-takes cash p) ⌝ }
+{
+    post(positions, securities);
+    post(positions, cash);
+}
+
+// Enters a movement into the positions.
+pub fn enter(positions: &mut [i64; PLACES], m: &Movement)
+    requires fits { ⌜ fits (now m) ≡ true ⌝ }
+    requires room { ⌜ Roomy (now positions) ⌝ }
+    ensures { λ _. ⌜ Posted (now (positions .entry)) (now (positions .exit)) (brings (now (m .entry))) (takes (now (m .entry))) ⌝ }
+{
+    post_both(positions, Leg::of_securities(m), Leg::of_cash(m));
+}
+
+// Takes a movement out of the positions.
+pub fn leave(positions: &mut [i64; PLACES], m: &Movement)
+    requires fits { ⌜ fits (now m) ≡ true ⌝ }
+    requires room { ⌜ Roomy (now positions) ⌝ }
+    ensures { λ _. ⌜ Posted (now (positions .entry)) (now (positions .exit)) (takes (now (m .entry))) (brings (now (m .entry))) ⌝ }
+{
+    post_both(positions, Leg::of_securities(m).reversed(), Leg::of_cash(m).reversed());
+}
+
+// The positions of all places under a package.
+pub fn positions_of(movements: &[Movement], marks: &[bool; 128]) -> [i64; PLACES]
+    requires { ⌜ Fitting (now movements) ⌝ }
+    ensures { λ r. ⌜ Kept (now (movements .entry)) (now (marks .entry)) r ⌝ }
+{
+    let mut positions = [0; PLACES];
+    for (i, m) in movements.iter().enumerate() {
+        if marks[i] {
+            enter(&mut positions, m);
+        }
+    }
+    positions
 }

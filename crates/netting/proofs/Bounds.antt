@@ -4,13 +4,14 @@ use mathlib.Core.Bool.{Bool, cond}
 use mathlib.Core.List.{List}
 use Prim.Native.Nat.{ℕ, _+_, _*_, _<_, _≤_}
 use native.Mathlib.Omega.{arith}
+use lib.IntN.{ℤ}
 use lib.ListN.{length}
 use Rattle.std.proofs.shelf.Signed.{ints}
 use Rattle.std.proofs.shelf.Tests.{cond-both}
 use Rattle.movement.specs.declared.movement.Movement.{Movement}
 use Rattle.netting.specs.Places.{at, takes, brings}
-use Rattle.netting.specs.Positions.{sumMarked, in-package, position-by}
-use Rattle.netting.specs.Limits.{Fitting, Near}
+use Rattle.netting.specs.Positions.{sumMarked, in-package, position-by, Kept}
+use Rattle.netting.specs.Limits.{Fitting, Near, Roomy}
 use Rattle.netting.proofs.Legs.{takes-most, brings-most}
 use Rattle.netting.proofs.Sums.{sum-bound}
 
@@ -26,3 +27,6 @@ position-near movements marks n p fitting within =
     let b = marked-most n marks (λ i. brings (at movements i) p) (omega arith) (λ i h. brings-most (at movements i) p (fitting .fit i (omega arith))) in
     let t = marked-most n marks (λ i. takes (at movements i) p) (omega arith) (λ i h. takes-most (at movements i) p (fitting .fit i (omega arith))) in
     record { above = omega (arith, ints); below = omega (arith, ints) }
+
+pub kept-roomy : (movements : List Movement) (marks : List Bool) (table : List ℤ) → Fitting movements → Kept movements marks table → Roomy table
+kept-roomy movements marks table fitting kept p h = rw (kept p h) (position-near movements marks (length movements) p fitting (omega arith))

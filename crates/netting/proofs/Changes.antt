@@ -46,3 +46,20 @@ module _ (movements : List Movement) (marks : List Bool) where
       let b = marked-less (length movements) marks (λ j. brings (at movements j) p) i below inside in
       let t = marked-less (length movements) marks (λ j. takes (at movements j) p) i below inside in
       omega (arith, ints)
+
+  -- the table after a movement was entered, and after one was taken out
+  pub kept-rejoined : (i : ℕ) (table table′ : List ℤ) → i < length movements → i < length marks → in-package marks i ≡ false → Kept movements marks table →
+      Posted table table′ (brings (at movements i)) (takes (at movements i)) → Kept movements (set marks i true) table′
+  kept-rejoined i table table′ below within outside kept posted p h =
+      let changed = position-rejoined i p below within outside in
+      let before = kept p h in
+      let after = posted p in
+      omega (arith, ints)
+
+  pub kept-struck : (i : ℕ) (table table′ : List ℤ) → i < length movements → in-package marks i ≡ true → Kept movements marks table →
+      Posted table table′ (takes (at movements i)) (brings (at movements i)) → Kept movements (set marks i false) table′
+  kept-struck i table table′ below inside kept posted p h =
+      let changed = position-struck i p below inside in
+      let before = kept p h in
+      let after = posted p in
+      omega (arith, ints)

@@ -4,3 +4,6 @@ pub mod Search
 pub mod Legs
 pub mod Bounds
 pub mod Changes
+pub mod Shortage
+pub mod Striking
+pub mod Covering

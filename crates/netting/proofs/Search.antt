@@ -2,7 +2,7 @@
 use mathlib.Core.Path.{_≡_, refl, sym, _∙_, ap}
 use mathlib.Core.Bool.{Bool, true, false, cond, _&&_}
 use mathlib.Core.Logic.{inl, inr, ⊎-elim}
-use Prim.Native.Nat.{ℕ, zero, suc, _+_, _<_, _≤_}
+use Prim.Native.Nat.{ℕ, zero, suc, _+_, _-_, _<_, _≤_}
 use native.Mathlib.Numerals.{add-one}
 use native.Mathlib.Omega.{arith}
 use Rattle.std.specs.Options.{isSome, Cases}
@@ -24,6 +24,24 @@ first-is passes (suc n) i h before here =
 pub first-none-more : (passes : ℕ → Bool) (n : ℕ) → firstBelow n passes ≡ None → passes n ≡ false → firstBelow (n + 1) passes ≡ None
 first-none-more passes n before here = rw add-one (rw before (cond-false (passes n) (Some n) None here))
 
+-- two tests with the same answers
+pub first-same : (passes other : ℕ → Bool) (n : ℕ) → ((i : ℕ) → i < n → passes i ≡ other i) → firstBelow n passes ≡ firstBelow n other
+first-same passes other zero same = refl
+first-same passes other (suc n) same = rw (first-same passes other n (λ i h. same i (omega arith)), same n (omega arith))
+
+-- the last passes, or does not
+pub last-is : (passes : ℕ → Bool) (n : ℕ) → 0 < n → passes (n - 1) ≡ true → lastBelow n passes ≡ Some (n - 1)
+last-is passes zero h here = absurd (omega arith)
+last-is passes (suc n) h here =
+    let e : suc n - 1 ≡ n = omega arith in
+    rw e (cond-true (passes n) (Some n) (lastBelow n passes) (rw e at here))
+
+pub last-skip : (passes : ℕ → Bool) (n : ℕ) → 0 < n → passes (n - 1) ≡ false → lastBelow n passes ≡ lastBelow (n - 1) passes
+last-skip passes zero h here = absurd (omega arith)
+last-skip passes (suc n) h here =
+    let e : suc n - 1 ≡ n = omega arith in
+    rw e (cond-false (passes n) (Some n) (lastBelow n passes) (rw e at here))
+
 -- what is known of what a search up finds
 abbrev pub First : (ℕ → Bool) → ℕ → Option ℕ → Type 0
 First passes n None = (j : ℕ) → j < n → passes j ≡ false
@@ -37,6 +55,17 @@ first-more passes n None false e known = λ j h. ⊎-elim (λ (q : j ≡ n). ap 
 pub first-known : (passes : ℕ → Bool) (n : ℕ) → First passes n (firstBelow n passes)
 first-known passes zero = λ j h. absurd (omega arith)
 first-known passes (suc n) = first-more passes n (firstBelow n passes) (passes n) refl (first-known passes n)
+
+-- the same where something is known to be found, or not
+pub first-some : (passes : ℕ → Bool) (n i : ℕ) → firstBelow n passes ≡ Some i → First passes n (Some i)
+first-some passes n i e = rw e at (first-known passes n)
+
+pub first-none : (passes : ℕ → Bool) (n : ℕ) → firstBelow n passes ≡ None → First passes n None
+first-none passes n e = rw e at (first-known passes n)
+
+pub first-passes-none : (passes : ℕ → Bool) (n : ℕ) → ((i : ℕ) → i < n → passes i ≡ false) → firstBelow n passes ≡ None
+first-passes-none passes zero each = refl
+first-passes-none passes (suc n) each = rw (first-passes-none passes n (λ i h. each i (omega arith))) (cond-false (passes n) (Some n) None (each n (omega arith)))
 
 -- what is known of what a search down finds
 abbrev pub Last : (ℕ → Bool) → ℕ → Option ℕ → Type 0
@@ -55,6 +84,17 @@ last-more passes n (Some i) false e known = (
 pub last-known : (passes : ℕ → Bool) (n : ℕ) → Last passes n (lastBelow n passes)
 last-known passes zero = λ j h. absurd (omega arith)
 last-known passes (suc n) = last-more passes n (lastBelow n passes) (passes n) refl (last-known passes n)
+
+pub last-some : (passes : ℕ → Bool) (n i : ℕ) → lastBelow n passes ≡ Some i → Last passes n (Some i)
+last-some passes n i e = rw e at (last-known passes n)
+
+pub last-none : (passes : ℕ → Bool) (n : ℕ) → lastBelow n passes ≡ None → Last passes n None
+last-none passes n e = rw e at (last-known passes n)
+
+-- what every step keeps
+pub times-keeps : {X : Type 0} (step : X → X) (Holds : X → Type 0) → ((x : X) → Holds x → Holds (step x)) → (n : ℕ) (x : X) → Holds x → Holds (times n step x)
+times-keeps step Holds keeps zero x holds = holds
+times-keeps step Holds keeps (suc n) x holds = times-keeps step Holds keeps n (step x) (keeps x holds)
 
 -- a step that changes nothing, repeated
 pub times-same : {X : Type 0} (n : ℕ) (step : X → X) (x : X) → step x ≡ x → times n step x ≡ x

@@ -31,10 +31,13 @@ pub record Fitting (movements : List Movement) : Type 0 where
   pub few : length movements ≤ 128
   pub fit : (i : ℕ) → i < length movements → fits (at movements i) ≡ true
 
+abbrev pub Small : List ℕ → Type 0
+Small amounts = (p : ℕ) → p < 576 → getD amounts p 0 ≤ 1000000000000000
+
 pub record Bounded (movements : List Movement) (amounts : List ℕ) : Type 0 where
   pub fitting : Fitting movements
   pub rising : (i : ℕ) → i + 1 < length movements → at movements i .number < at movements (i + 1) .number
-  pub small : (p : ℕ) → p < 576 → getD amounts p 0 ≤ 1000000000000000
+  pub small : Small amounts
 
 -- within n of 0
 pub record Near (n : ℕ) (z : ℤ) : Type 0 where

@@ -48,6 +48,10 @@ after-posting movements amounts marks p = pos (getD amounts p 0) +ℤ position m
 abbrev pub short : List Movement → List ℕ → List Bool → ℕ → Bool
 short movements amounts marks p = ltZ (after-posting movements amounts marks p) (pos 0)
 
+-- the same by a table of positions
+abbrev pub after-in : List ℕ → List ℤ → ℕ → ℤ
+after-in amounts table p = pos (getD amounts p 0) +ℤ getD table p (pos 0)
+
 -- a table of the positions of a package
 abbrev pub Kept : List Movement → List Bool → List ℤ → Type 0
 Kept movements marks table = (p : ℕ) → p < 576 → getD table p (pos 0) ≡ position movements marks p

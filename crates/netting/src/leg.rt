@@ -1,7 +1,6 @@
 // The legs of a movement.
 ghost use mathlib.Core.Path.{_≡_};
-ghost use Prim.Native.Nat.{_<_};
-ghost use Rattle.netting.specs.Places.{securities-leg, cash-leg, reversed as reversed-leg};
+ghost use Rattle.netting.specs.Places.{securities-leg, cash-leg, reversed as reversed-leg, leg-takes, leg-brings};
 use movement::Movement;
 
 // An amount that leaves one place and enters another.
@@ -44,5 +43,19 @@ impl Leg {
             to: self.from,
             amount: self.amount,
         }
+    }
+
+    // What it takes from a place.
+    pub fn takes(&self, place: usize) -> u64
+        ensures { λ r. ⌜ r ≡ leg-takes (now (self .entry)) place ⌝ }
+    {
+        if place == self.from { self.amount } else { 0 }
+    }
+
+    // What it brings to a place.
+    pub fn brings(&self, place: usize) -> u64
+        ensures { λ r. ⌜ r ≡ leg-brings (now (self .entry)) place ⌝ }
+    {
+        if place == self.to { self.amount } else { 0 }
     }
 }

@@ -10,13 +10,17 @@ use lib.IntN.{ℤ, pos, _+ℤ_, _-ℤ_}
 use lib.Signed.{ltZ, leZ, _≤ℤ_, _<ℤ_}
 use lib.ListN.{length, set}
 use Rattle.std.proofs.shelf.Signed.{ints}
-use Rattle.std.proofs.shelf.Tests.{cases-lt, cases-eq, cases-bool, and-parts, and-cases, and-left, or-cases, or-parts, eqb-true, eqb-false}
+use Rattle.std.proofs.shelf.Tests.{cases-lt, cases-eq, cases-bool, and-parts, and-cases, and-left, not-true}
 use Rattle.std.proofs.shelf.Ways.{tells}
 use Rattle.movement.specs.declared.movement.Movement.{Movement}
 use Rattle.netting.specs.declared.leg.Leg.{Leg}
 use Rattle.netting.specs.Places.{at, leg-takes, leg-brings, securities-leg, cash-leg, takes, brings}
-use Rattle.netting.specs.Limits.{fits}
-use Rattle.netting.specs.Rejoins.{leg-covered, covered}
+use Rattle.netting.specs.Positions.{in-package, after-posting, after-in, Kept}
+use Rattle.netting.specs.Strikes.{none-short}
+use Rattle.netting.specs.Limits.{fits, Fitting}
+use Rattle.netting.specs.Rejoins.{leg-covered, covered, struck, can-rejoin}
+use Rattle.netting.proofs.Changes.{position-rejoined}
+use Rattle.netting.proofs.Shortage.{none-short-at, none-short-all, some-short}
 
 -- the legs of a movement have no place in common
 cash-apart : (m : Movement) (p : ℕ) → p < 512 → (leg-takes (cash-leg m) p ≡ 0) × (leg-brings (cash-leg m) p ≡ 0)
@@ -65,3 +69,44 @@ module _ (amount : ℕ → ℤ) (m : Movement) (known : fits m ≡ true) where
       let lacks = leg-lacks amount (cash-leg m) q in
       (from, grind (arith, tells), omega (arith, ints)))
       (and-cases (leg-covered amount (securities-leg m)) (leg-covered amount (cash-leg m)) cover)
+
+at-least : (z : ℤ) → ltZ z (pos 0) ≡ false → pos 0 ≤ℤ z
+at-least z e = grind (arith, ints)
+
+not-below : (z : ℤ) → pos 0 ≤ℤ z → ltZ z (pos 0) ≡ false
+not-below z h = grind (arith, ints)
+
+below-none : (z : ℤ) → z <ℤ pos 0 → ltZ z (pos 0) ≡ true
+below-none z h = grind (arith, ints)
+
+module _ (movements : List Movement) (amounts : List ℕ) (marks : List Bool) (i : ℕ) (fitting : Fitting movements) (below : i < length movements) (within : i < length marks) (safe : none-short movements amounts marks ≡ true) where
+  -- what a place has after a movement rejoined
+  left-is : (p : ℕ) → in-package marks i ≡ false → after-posting movements amounts (set marks i true) p ≡ left-at (after-posting movements amounts marks) (at movements i) (fitting .fit i below) p
+  left-is p outside = let changed = position-rejoined movements marks i p below within outside in omega (arith, ints)
+
+  safe-if-covered : in-package marks i ≡ false → none-short movements amounts (set marks i true) ≡ covered (after-posting movements amounts marks) (at movements i)
+  safe-if-covered outside =
+      let amount = after-posting movements amounts marks in
+      let known = fitting .fit i below in
+      ⊎-elim
+      (λ (q : covered amount (at movements i) ≡ true).
+      none-short-all movements amounts (set marks i true) (λ p h. not-below (after-posting movements amounts (set marks i true) p) (rw (left-is p outside) (covered-keeps amount (at movements i) known p (at-least (amount p) (none-short-at movements amounts marks safe p h)) q))) ∙ sym q)
+      (λ (q : covered amount (at movements i) ≡ false).
+      let lacks = uncovered-lacks amount (at movements i) known q in
+      some-short movements amounts (set marks i true) (lacks .0) (lacks .1) (below-none (after-posting movements amounts (set marks i true) (lacks .0)) (rw (left-is (lacks .0) outside) (lacks .2))) ∙ sym q)
+      (cases-bool (covered amount (at movements i)))
+
+  pub rejoins-if-covered : (tried : List Bool) → can-rejoin movements amounts tried marks i ≡ (struck tried marks i && covered (after-posting movements amounts marks) (at movements i))
+  rejoins-if-covered tried =
+      ⊎-elim
+      (λ (q : struck tried marks i ≡ true). ap (λ b. struck tried marks i && b) (safe-if-covered (not-true (in-package marks i) (and-parts _ _ q .1))))
+      (λ (q : struck tried marks i ≡ false). and-left _ _ q ∙ sym (and-left _ _ q))
+      (cases-bool (struck tried marks i))
+
+-- coverage by a table of positions
+pub covered-in : (movements : List Movement) (amounts : List ℕ) (marks : List Bool) (table : List ℤ) (m : Movement) → fits m ≡ true → Kept movements marks table →
+    covered (after-in amounts table) m ≡ covered (after-posting movements amounts marks) m
+covered-in movements amounts marks table m known kept =
+    let securities = kept (securities-leg m .from) (grind (arith, tells)) in
+    let cash = kept (cash-leg m .from) (grind (arith, tells)) in
+    rw (securities, cash)

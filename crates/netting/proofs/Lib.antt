@@ -7,3 +7,4 @@ pub mod Changes
 pub mod Shortage
 pub mod Striking
 pub mod Covering
+pub mod Rejoining

@@ -1,15 +1,15 @@
 -- What searches find, and what repetition comes to.
 use mathlib.Core.Path.{_≡_, refl, sym, _∙_, ap}
-use mathlib.Core.Bool.{Bool, true, false, cond, _&&_}
+use mathlib.Core.Bool.{Bool, true, false, not, cond}
 use mathlib.Core.Logic.{inl, inr, ⊎-elim}
 use Prim.Native.Nat.{ℕ, zero, suc, _+_, _-_, _<_, _≤_}
 use native.Mathlib.Numerals.{add-one}
 use native.Mathlib.Omega.{arith}
-use Rattle.std.specs.Options.{isSome, Cases}
+use Rattle.std.specs.Options.{isSome}
 use Rattle.std.specs.declared.option.Option.{Option}
 use Rattle.std.specs.declared.option.Option.the-variants.{Some, None}
-use Rattle.std.proofs.shelf.Tests.{cases-eq, cases-bool, cond-true, cond-false, both-ways, and-parts, and-from}
-use Rattle.netting.specs.Search.{or-at, firstBelow, lastBelow, allBelow, times}
+use Rattle.std.proofs.shelf.Tests.{cases-eq, cases-bool, cond-true, cond-false, both-ways, false≢true}
+use Rattle.netting.specs.Search.{or-at, firstBelow, lastBelow, noneBelow, times}
 
 -- n is the first that passes
 pub first-is : (passes : ℕ → Bool) (n i : ℕ) → i < n → firstBelow i passes ≡ None → passes i ≡ true → firstBelow n passes ≡ Some i
@@ -119,11 +119,23 @@ module _ {X : Type 0} (next : X → Option ℕ) (step : X → X) (left : X → �
 pub times-less : {X : Type 0} (step : X → X) (left : X → ℕ) (x : X) → left x ≡ suc (left (step x)) → times (left x) step x ≡ times (left (step x)) step (step x)
 times-less step left x fall = rw fall
 
-pub all-more : (passes : ℕ → Bool) (n : ℕ) → allBelow (n + 1) passes ≡ (allBelow n passes && passes n)
-all-more passes n = rw add-one
+nothing-found : (found : Option ℕ) → not (isSome found) ≡ true → found ≡ None
+nothing-found None e = refl
+nothing-found (Some i) e = absurd (false≢true e)
 
-pub all-at : (passes : ℕ → Bool) (n : ℕ) → allBelow n passes ≡ true → (i : ℕ) → i < n → passes i ≡ true
-all-at passes zero all i h = absurd (omega arith)
-all-at passes (suc n) all i h =
-    let both = and-parts (allBelow n passes) (passes n) all in
-    ⊎-elim (λ (q : i ≡ n). ap passes q ∙ both .1) (λ (q : i ≡ n → ⊥). all-at passes n (both .0) i (omega arith)) (cases-eq i n)
+module _ (passes : ℕ → Bool) (n : ℕ) where
+  pub none-from : firstBelow n passes ≡ None → noneBelow n passes ≡ true
+  none-from e = rw e
+
+  pub none-at : noneBelow n passes ≡ true → (i : ℕ) → i < n → passes i ≡ false
+  none-at e = first-none passes n (nothing-found (firstBelow n passes) e)
+
+  pub none-all : ((i : ℕ) → i < n → passes i ≡ false) → noneBelow n passes ≡ true
+  none-all each = none-from (first-passes-none passes n each)
+
+  pub none-fails : (i : ℕ) → i < n → passes i ≡ true → noneBelow n passes ≡ false
+  none-fails i h here =
+      ⊎-elim
+      (λ (e : noneBelow n passes ≡ true). absurd (both-ways (passes i) (none-at e i h) here))
+      (λ (e : noneBelow n passes ≡ false). e)
+      (cases-bool (noneBelow n passes))

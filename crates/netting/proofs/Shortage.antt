@@ -1,28 +1,22 @@
 -- Short places, and who takes from them.
-use mathlib.Core.Path.{_≡_, refl, sym, _∙_}
-use mathlib.Core.Bool.{Bool, true, false, not, cond, _&&_}
+use mathlib.Core.Path.{_≡_, refl, ap}
+use mathlib.Core.Bool.{Bool, true, false, cond, _&&_}
 use mathlib.Core.List.{List}
-use mathlib.Core.Logic.{inl, inr, ⊎-elim}
 use Prim.Native.Nat.{ℕ, _+_, _<_, _≤_}
 use native.Mathlib.Omega.{arith}
-use lib.Dec.{ltb}
 use lib.IntN.{ℤ, pos, _+ℤ_, _-ℤ_}
 use lib.Signed.{ltZ}
 use lib.ListN.{length, getD}
-use Rattle.std.specs.Options.{isSome}
-use Rattle.std.specs.declared.option.Option.{Option}
-use Rattle.std.specs.declared.option.Option.the-variants.{Some, None}
 use Rattle.std.proofs.shelf.Signed.{ints}
-use Rattle.std.proofs.shelf.Tests.{cases-bool, both-ways, and-from, false≢true}
-use Rattle.std.proofs.shelf.Ways.{tells}
+use Rattle.std.proofs.shelf.Tests.{and-from}
 use Rattle.movement.specs.declared.movement.Movement.{Movement}
 use Rattle.netting.specs.Search.{firstBelow}
 use Rattle.netting.specs.Places.{places, at, takes, brings, only-takes}
-use Rattle.netting.specs.Positions.{in-package, brought, taken, short}
+use Rattle.netting.specs.Positions.{in-package, brought, taken, short, after-in, Kept}
 use Rattle.netting.specs.Strikes.{first-short, none-short}
 use Rattle.netting.specs.Limits.{Fitting}
 use Rattle.netting.proofs.Legs.{takes-only}
-use Rattle.netting.proofs.Search.{first-none, first-passes-none}
+use Rattle.netting.proofs.Search.{first-same, none-at, none-all, none-fails}
 use Rattle.netting.proofs.Sums.{sum-exceeds}
 
 -- more is taken than is there and is brought
@@ -42,28 +36,20 @@ module _ (movements : List Movement) (amounts : List ℕ) (marks : List Bool) wh
       let parts = cond-more (in-package marks (taker .0)) (brings (at movements (taker .0)) p) (takes (at movements (taker .0)) p) (taker .2) in
       (taker .0, taker .1, and-from _ _ (parts .0) (takes-only (at movements (taker .0)) p (fitting .fit (taker .0) (taker .1)) (parts .1)))
 
-  pub none-short-from : first-short movements amounts marks ≡ None → none-short movements amounts marks ≡ true
-  none-short-from e = rw e
-
-  pub first-short-none : none-short movements amounts marks ≡ true → first-short movements amounts marks ≡ None
-  first-short-none e = nothing-found (first-short movements amounts marks) e
-    where
-      nothing-found : (found : Option ℕ) → not (isSome found) ≡ true → found ≡ None
-      nothing-found None e = refl
-      nothing-found (Some p) e = absurd (false≢true e)
-
   -- no place is short, as a fact of each place
   pub none-short-at : none-short movements amounts marks ≡ true → (p : ℕ) → p < 576 → short movements amounts marks p ≡ false
   unfolding places
-  none-short-at e p h = first-none (short movements amounts marks) places (first-short-none e) p h
+  none-short-at = none-at (short movements amounts marks) places
 
   pub none-short-all : ((p : ℕ) → p < 576 → short movements amounts marks p ≡ false) → none-short movements amounts marks ≡ true
   unfolding places
-  none-short-all each = none-short-from (first-passes-none (short movements amounts marks) places each)
+  none-short-all = none-all (short movements amounts marks) places
 
   pub some-short : (p : ℕ) → p < 576 → short movements amounts marks p ≡ true → none-short movements amounts marks ≡ false
-  some-short p h lacks =
-      ⊎-elim
-      (λ (e : none-short movements amounts marks ≡ true). absurd (both-ways (short movements amounts marks p) (none-short-at e p h) lacks))
-      (λ (e : none-short movements amounts marks ≡ false). e)
-      (cases-bool (none-short movements amounts marks))
+  unfolding places
+  some-short = none-fails (short movements amounts marks) places
+
+  -- the first short place by a table of positions
+  pub first-short-in : (table : List ℤ) → Kept movements marks table → firstBelow places (λ p. ltZ (after-in amounts table p) (pos 0)) ≡ first-short movements amounts marks
+  unfolding places
+  first-short-in table kept = first-same _ _ places (λ p h. ap (λ z. ltZ (pos (getD amounts p 0) +ℤ z) (pos 0)) (kept p h))

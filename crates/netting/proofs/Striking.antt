@@ -13,27 +13,27 @@ use Rattle.netting.specs.Places.{places, at, only-takes}
 use Rattle.netting.specs.Positions.{in-package, size, short}
 use Rattle.netting.specs.Strikes.{chosen, chosen-at, marked, first-short, none-short, struck-next, strike, after-strikes}
 use Rattle.netting.specs.Limits.{Fitting}
-use Rattle.netting.proofs.Search.{last-some, last-none, first-some, ends, times-less}
+use Rattle.netting.proofs.Search.{last-some, last-none, first-some, none-from, ends, times-less}
 use Rattle.netting.proofs.Sums.{marked-less}
-use Rattle.netting.proofs.Shortage.{short-taker, none-short-from}
+use Rattle.netting.proofs.Shortage.{short-taker}
 
 never-found : (i : ℕ) → _≡_ {A = Option ℕ} None (Some i) → ⊥
 never-found i e = let z : _≡_ {A = ℕ} 0 1 = cc in omega arith
 
 module _ (movements : List Movement) (amounts : List ℕ) where
-  -- whoever is chosen is in the package
-  pub chosen-inside : (marks : List Bool) (p i : ℕ) → chosen movements marks p ≡ Some i → (i < length movements) × (in-package marks i ≡ true)
-  chosen-inside marks p i e =
+  chosen-at-inside : (marks : List Bool) (place : Option ℕ) (i : ℕ) → chosen-at movements marks place ≡ Some i → (i < length movements) × (in-package marks i ≡ true)
+  chosen-at-inside marks None i e = absurd (never-found i e)
+  chosen-at-inside marks (Some p) i e =
       let last = last-some (λ j. in-package marks j && only-takes (at movements j) p) (length movements) i e in
       (last .0, and-parts _ _ (last .1) .0)
 
-  chosen-at-inside : (marks : List Bool) (place : Option ℕ) (i : ℕ) → chosen-at movements marks place ≡ Some i → (i < length movements) × (in-package marks i ≡ true)
-  chosen-at-inside marks None i e = absurd (never-found i e)
-  chosen-at-inside marks (Some p) i e = chosen-inside marks p i e
+  -- whoever is struck is on the list and in the package
+  pub struck-inside : (marks : List Bool) (i : ℕ) → struck-next movements amounts marks ≡ Some i → (i < length movements) × (in-package marks i ≡ true)
+  struck-inside marks i e = chosen-at-inside marks (first-short movements amounts marks) i e
 
   pub strike-shrinks : (marks : List Bool) (i : ℕ) → struck-next movements amounts marks ≡ Some i → size movements marks ≡ suc (size movements (strike movements amounts marks))
   strike-shrinks marks i e =
-      let inside = chosen-at-inside marks (first-short movements amounts marks) i e in
+      let inside = struck-inside marks i e in
       let less = marked-less (length movements) marks (λ j. 1) i (inside .0) (inside .1) in
       rw e (omega arith)
 
@@ -50,7 +50,7 @@ module _ (movements : List Movement) (amounts : List ℕ) where
       absurd (both-ways _ (nobody (taker .0) (taker .1)) (taker .2))
 
   pub none-struck : (marks : List Bool) → Fitting movements → struck-next movements amounts marks ≡ None → none-short movements amounts marks ≡ true
-  none-struck marks fitting e = none-short-from movements amounts marks (none-chosen marks (first-short movements amounts marks) fitting refl e)
+  none-struck marks fitting e = none-from (short movements amounts marks) places (none-chosen marks (first-short movements amounts marks) fitting refl e)
 
   pub strikes-end : (marks : List Bool) → Fitting movements → none-short movements amounts (after-strikes movements amounts marks) ≡ true
   strikes-end marks fitting =

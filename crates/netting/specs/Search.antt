@@ -1,6 +1,7 @@
 -- Searches and repetition over the numbers below a number.
-use mathlib.Core.Bool.{Bool, true, false, cond, _&&_}
+use mathlib.Core.Bool.{Bool, not, cond}
 use Prim.Native.Nat.{ℕ, zero, suc}
+use Rattle.std.specs.Options.{isSome}
 use Rattle.std.specs.declared.option.Option.{Option}
 use Rattle.std.specs.declared.option.Option.the-variants.{Some, None}
 
@@ -19,10 +20,9 @@ abbrev pub lastBelow : ℕ → (ℕ → Bool) → Option ℕ
 lastBelow zero passes = None
 lastBelow (suc n) passes = cond (passes n) (Some n) (lastBelow n passes)
 
--- whether every number below n passes
-abbrev pub allBelow : ℕ → (ℕ → Bool) → Bool
-allBelow zero passes = true
-allBelow (suc n) passes = allBelow n passes && passes n
+-- whether no number below n passes
+abbrev pub noneBelow : ℕ → (ℕ → Bool) → Bool
+noneBelow n passes = not (isSome (firstBelow n passes))
 
 -- a step taken n times
 abbrev pub times : {X : Type 0} → ℕ → (X → X) → X → X

@@ -1,13 +1,12 @@
 -- Step 1: while a place is short, a movement that takes from the first such place is struck.
-use mathlib.Core.Bool.{Bool, true, false, not, _&&_}
+use mathlib.Core.Bool.{Bool, false, _&&_}
 use mathlib.Core.List.{List}
 use Prim.Native.Nat.{ℕ}
 use lib.ListN.{length, set}
-use Rattle.std.specs.Options.{isSome}
 use Rattle.std.specs.declared.option.Option.{Option}
 use Rattle.std.specs.declared.option.Option.the-variants.{Some, None}
 use Rattle.movement.specs.declared.movement.Movement.{Movement}
-use Rattle.netting.specs.Search.{firstBelow, lastBelow, times}
+use Rattle.netting.specs.Search.{firstBelow, lastBelow, noneBelow, times}
 use Rattle.netting.specs.Places.{places, at, only-takes}
 use Rattle.netting.specs.Positions.{in-package, size, short}
 
@@ -27,7 +26,7 @@ abbrev pub first-short : List Movement → List ℕ → List Bool → Option ℕ
 first-short movements amounts marks = firstBelow places (short movements amounts marks)
 
 abbrev pub none-short : List Movement → List ℕ → List Bool → Bool
-none-short movements amounts marks = not (isSome (first-short movements amounts marks))
+none-short movements amounts marks = noneBelow places (short movements amounts marks)
 
 abbrev pub struck-next : List Movement → List ℕ → List Bool → Option ℕ
 struck-next movements amounts marks = chosen-at movements marks (first-short movements amounts marks)

@@ -2,6 +2,7 @@
 pub mod leg;
 pub mod net;
 pub mod positions;
+mod rejoins;
 mod strikes;
 
 pub use leg::Leg;

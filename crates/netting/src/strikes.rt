@@ -5,13 +5,15 @@ ghost use Prim.Native.Nat.{ℕ, _≤_, _<_};
 ghost use lib.IntN.{pos};
 ghost use lib.Signed.{ltZ};
 ghost use lib.ListN.{length, getD};
-ghost use Rattle.std.specs.Slices.{found};
+ghost use Rattle.std.specs.Options.{isSome};
 ghost use Rattle.netting.specs.Search.{firstBelow};
 ghost use Rattle.netting.specs.Places.{places, takes as takes-from, brings as brings-to, only-takes};
-ghost use Rattle.netting.specs.Positions.{after-in};
-ghost use Rattle.netting.specs.Strikes.{chosen as chosen-for};
-ghost use Rattle.netting.specs.Limits.{Roomy, Fitting, Small, fits};
+ghost use Rattle.netting.specs.Positions.{after-in, Kept};
+ghost use Rattle.netting.specs.Strikes.{chosen as chosen-for, struck-next, strike as strike-of};
+ghost use Rattle.netting.specs.Limits.{Roomy, Fitting, Small, Bounded, fits};
 use crate::leg::Leg;
+use crate::net::MOVEMENTS;
+use crate::net::Net;
 use crate::positions::PLACES;
 use movement::Movement;
 
@@ -64,7 +66,7 @@ fn first_short(amounts: &[u64; PLACES], positions: &[i64; PLACES]) -> Option<usi
 }
 
 // Whom to strike for a short place.
-fn chosen(movements: &[Movement], marks: &[bool; 128], place: usize) -> Option<usize>
+fn chosen(movements: &[Movement], marks: &[bool; MOVEMENTS], place: usize) -> Option<usize>
     requires { ⌜ Fitting (now movements) ⌝ }
     ensures { λ r. ⌜ r ≡ chosen-for (now (movements .entry)) (now (marks .entry)) place ⌝ }
 {
@@ -74,4 +76,33 @@ fn chosen(movements: &[Movement], marks: &[bool; 128], place: usize) -> Option<u
         }
     }
     None
+}
+
+impl Net {
+    // Who is struck next, for the first short place.
+    fn next_to_strike(&self, movements: &[Movement], amounts: &[u64; PLACES]) -> Option<usize>
+        requires bounded { ⌜ Bounded (now movements) (now amounts) ⌝ }
+        requires kept { ⌜ Kept (now movements) (now self .marks) (now self .positions) ⌝ }
+        ensures { λ r. ⌜ r ≡ struck-next (now (movements .entry)) (now (amounts .entry)) (now (self .entry) .marks) ⌝ }
+    {
+        match first_short(amounts, &self.positions) {
+            Some(place) => chosen(movements, &self.marks, place),
+            None => None,
+        }
+    }
+
+    // Strikes one movement for the first short place. Says whether there was one.
+    pub fn strike_once(&mut self, movements: &[Movement], amounts: &[u64; PLACES]) -> bool
+        requires bounded { ⌜ Bounded (now movements) (now amounts) ⌝ }
+        requires kept { ⌜ Kept (now movements) (now self .marks) (now self .positions) ⌝ }
+        ensures found { λ r. ⌜ r ≡ isSome (struck-next (now (movements .entry)) (now (amounts .entry)) (now (self .entry) .marks)) ⌝ }
+        ensures after { λ _. ⌜ now (self .exit) .marks ≡ strike-of (now (movements .entry)) (now (amounts .entry)) (now (self .entry) .marks) ⌝ }
+        ensures kept { λ _. ⌜ Kept (now (movements .entry)) (now (self .exit) .marks) (now (self .exit) .positions) ⌝ }
+    {
+        let Some(i) = self.next_to_strike(movements, amounts) else {
+            return false;
+        };
+        self.strike(movements, i);
+        true
+    }
 }

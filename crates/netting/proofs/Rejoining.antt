@@ -1,0 +1,84 @@
+-- Step 2 ends, no place is short then, and no struck movement has both its legs covered.
+use mathlib.Core.Path.{_≡_, refl, sym, _∙_, ap}
+use mathlib.Core.Bool.{Bool, true, false, cond, _&&_}
+use mathlib.Core.List.{List}
+use Prim.Native.Nat.{ℕ, suc, _+_, _<_, _≤_}
+use native.Mathlib.Omega.{arith}
+use lib.ListN.{length, set}
+use Rattle.std.specs.declared.option.Option.{Option}
+use Rattle.std.specs.declared.option.Option.the-variants.{Some, None}
+use Rattle.std.proofs.shelf.Lists.{length-set, getD-set-same, getD-set-other}
+use Rattle.std.proofs.shelf.Tests.{and-parts, and-from, not-true, not-from-false, cond-true, cond-false}
+use Rattle.movement.specs.declared.movement.Movement.{Movement}
+use Rattle.netting.specs.Places.{at}
+use Rattle.netting.specs.Positions.{in-package, after-posting}
+use Rattle.netting.specs.Strikes.{none-short, marked}
+use Rattle.netting.specs.Rejoins.{struck, covered, can-rejoin, rejoins-next, rejoin, how-many-struck, after-rejoins}
+use Rattle.netting.specs.Limits.{Fitting}
+use Rattle.netting.proofs.Search.{first-some, first-none, ends, times-less, times-keeps}
+use Rattle.netting.proofs.Sums.{sum-changed}
+use Rattle.netting.proofs.Covering.{rejoins-if-covered}
+
+module _ (movements : List Movement) (amounts : List ℕ) (tried : List Bool) where
+  -- marks enough for the movements, and no place short
+  pub record Sound (marks : List Bool) : Type 0 where
+    pub long : length movements ≤ length marks
+    pub safe : none-short movements amounts marks ≡ true
+
+  -- who rejoins is on the list, was tried and struck, and leaves no place short
+  pub record Rejoins (marks : List Bool) (i : ℕ) : Type 0 where
+    pub below : i < length movements
+    pub was-tried : in-package tried i ≡ true
+    pub outside : in-package marks i ≡ false
+    pub safe : none-short movements amounts (set marks i true) ≡ true
+
+  pub rejoins : (marks : List Bool) (i : ℕ) → rejoins-next movements amounts tried marks ≡ Some i → Rejoins marks i
+  rejoins marks i e =
+      let first = first-some (can-rejoin movements amounts tried marks) (length movements) i e in
+      let parts = and-parts (struck tried marks i) _ (first .1) in
+      let struck-parts = and-parts (in-package tried i) _ (parts .0) in
+      record { below = first .0; was-tried = struck-parts .0; outside = not-true (in-package marks i) (struck-parts .1); safe = parts .1 }
+
+  marked-sound : (marks : List Bool) (next : Option ℕ) → rejoins-next movements amounts tried marks ≡ next → Sound marks → Sound (marked true marks next)
+  marked-sound marks None e sound = sound
+  marked-sound marks (Some i) e sound = record { long = simp length-set (sound .long); safe = rejoins marks i e .safe }
+
+  pub rejoin-sound : (marks : List Bool) → Sound marks → Sound (rejoin movements amounts tried marks)
+  rejoin-sound marks sound = marked-sound marks (rejoins-next movements amounts tried marks) refl sound
+
+  pub rejoin-shrinks : (marks : List Bool) (i : ℕ) → length movements ≤ length marks → rejoins-next movements amounts tried marks ≡ Some i →
+      how-many-struck movements tried marks ≡ suc (how-many-struck movements tried (rejoin movements amounts tried marks))
+  rejoin-shrinks marks i long e =
+      let who = rejoins marks i e in
+      let below = who .below in
+      let counts : List Bool → ℕ → ℕ = λ w j. cond (in-package tried j) (cond (in-package w j) 0 1) 0 in
+      let inside = getD-set-same marks i true false (omega arith) in
+      let now-none : counts (set marks i true) i ≡ 0 = cond-true (in-package tried i) _ 0 (who .was-tried) ∙ cond-true _ 0 1 inside in
+      let was-one : counts marks i ≡ 1 = cond-true (in-package tried i) _ 0 (who .was-tried) ∙ cond-false _ 0 1 (who .outside) in
+      let changed = sum-changed (counts marks) (counts (set marks i true)) (length movements) i below (λ j other. ap (λ b. cond (in-package tried j) (cond b 0 1) 0) (getD-set-other marks i j true false other)) in
+      rw e (omega arith)
+
+  rejoin-still : (marks : List Bool) → rejoins-next movements amounts tried marks ≡ None → rejoin movements amounts tried marks ≡ marks
+  rejoin-still marks e = rw e
+
+  pub rejoins-sound : (marks : List Bool) → Sound marks → Sound (after-rejoins movements amounts tried marks)
+  rejoins-sound marks sound = times-keeps (rejoin movements amounts tried) Sound rejoin-sound (how-many-struck movements tried marks) marks sound
+
+  none-rejoins : (marks : List Bool) → Sound marks → rejoins-next movements amounts tried (after-rejoins movements amounts tried marks) ≡ None
+  none-rejoins marks sound =
+      ends (rejoins-next movements amounts tried) (rejoin movements amounts tried) (how-many-struck movements tried) Sound rejoin-still (λ w i holds e. (rejoin-shrinks w i (holds .long) e, rejoin-sound w holds)) marks sound
+
+  pub none-covered : (marks : List Bool) (i : ℕ) → Fitting movements → Sound marks → i < length movements →
+      struck tried (after-rejoins movements amounts tried marks) i ≡ true → covered (after-posting movements amounts (after-rejoins movements amounts tried marks)) (at movements i) ≡ false
+  none-covered marks i fitting sound below out =
+      let end = after-rejoins movements amounts tried marks in
+      let holds = rejoins-sound marks sound in
+      let long = holds .long in
+      let cannot = first-none (can-rejoin movements amounts tried end) (length movements) (none-rejoins marks sound) i below in
+      let is = rejoins-if-covered movements amounts end i fitting below (omega arith) (holds .safe) tried in
+      sym (ap (λ b. b && covered (after-posting movements amounts end) (at movements i)) out) ∙ sym is ∙ cannot
+
+  -- for the loop: one more rejoins
+  pub after-rejoin : (marks : List Bool) (i : ℕ) → length movements ≤ length marks → rejoins-next movements amounts tried marks ≡ Some i →
+      after-rejoins movements amounts tried marks ≡ after-rejoins movements amounts tried (rejoin movements amounts tried marks)
+  after-rejoin marks i long e = times-less (rejoin movements amounts tried) (how-many-struck movements tried) marks (rejoin-shrinks marks i long e)

@@ -5,26 +5,23 @@ use mathlib.Core.List.{List}
 use Prim.Native.Nat.{ℕ, suc, _+_, _<_, _≤_}
 use native.Mathlib.Omega.{arith}
 use lib.ListN.{length, set}
+use Rattle.std.specs.Options.{isSome}
 use Rattle.std.specs.declared.option.Option.{Option}
 use Rattle.std.specs.declared.option.Option.the-variants.{Some, None}
 use Rattle.std.proofs.shelf.Lists.{length-set, getD-set-same, getD-set-other}
 use Rattle.std.proofs.shelf.Tests.{and-parts, and-from, not-true, not-from-false, cond-true, cond-false}
 use Rattle.movement.specs.declared.movement.Movement.{Movement}
 use Rattle.netting.specs.Places.{at}
-use Rattle.netting.specs.Positions.{in-package, after-posting}
-use Rattle.netting.specs.Strikes.{none-short, marked}
-use Rattle.netting.specs.Rejoins.{struck, covered, can-rejoin, rejoins-next, rejoin, how-many-struck, after-rejoins}
+use Rattle.netting.specs.Positions.{in-package, size, after-posting}
+use Rattle.netting.specs.Strikes.{none-short, marked, struck-next, strike, after-strikes}
+use Rattle.netting.specs.Rejoins.{Sound, struck, covered, can-rejoin, rejoins-next, rejoin, how-many-struck, after-rejoins}
 use Rattle.netting.specs.Limits.{Fitting}
-use Rattle.netting.proofs.Search.{first-some, first-none, ends, times-less, times-keeps}
+use Rattle.netting.proofs.Search.{first-some, first-none, found-some, found-none, ends, times-same, times-less, times-keeps}
 use Rattle.netting.proofs.Sums.{sum-changed}
+use Rattle.netting.proofs.Striking.{strikes-end}
 use Rattle.netting.proofs.Covering.{rejoins-if-covered}
 
 module _ (movements : List Movement) (amounts : List ℕ) (tried : List Bool) where
-  -- marks enough for the movements, and no place short
-  pub record Sound (marks : List Bool) : Type 0 where
-    pub long : length movements ≤ length marks
-    pub safe : none-short movements amounts marks ≡ true
-
   -- who rejoins is on the list, was tried and struck, and leaves no place short
   pub record Rejoins (marks : List Bool) (i : ℕ) : Type 0 where
     pub below : i < length movements
@@ -39,11 +36,11 @@ module _ (movements : List Movement) (amounts : List ℕ) (tried : List Bool) wh
       let struck-parts = and-parts (in-package tried i) _ (parts .0) in
       record { below = first .0; was-tried = struck-parts .0; outside = not-true (in-package marks i) (struck-parts .1); safe = parts .1 }
 
-  marked-sound : (marks : List Bool) (next : Option ℕ) → rejoins-next movements amounts tried marks ≡ next → Sound marks → Sound (marked true marks next)
+  marked-sound : (marks : List Bool) (next : Option ℕ) → rejoins-next movements amounts tried marks ≡ next → Sound movements amounts marks → Sound movements amounts (marked true marks next)
   marked-sound marks None e sound = sound
   marked-sound marks (Some i) e sound = record { long = simp length-set (sound .long); safe = rejoins marks i e .safe }
 
-  pub rejoin-sound : (marks : List Bool) → Sound marks → Sound (rejoin movements amounts tried marks)
+  pub rejoin-sound : (marks : List Bool) → Sound movements amounts marks → Sound movements amounts (rejoin movements amounts tried marks)
   rejoin-sound marks sound = marked-sound marks (rejoins-next movements amounts tried marks) refl sound
 
   pub rejoin-shrinks : (marks : List Bool) (i : ℕ) → length movements ≤ length marks → rejoins-next movements amounts tried marks ≡ Some i →
@@ -61,14 +58,14 @@ module _ (movements : List Movement) (amounts : List ℕ) (tried : List Bool) wh
   rejoin-still : (marks : List Bool) → rejoins-next movements amounts tried marks ≡ None → rejoin movements amounts tried marks ≡ marks
   rejoin-still marks e = rw e
 
-  pub rejoins-sound : (marks : List Bool) → Sound marks → Sound (after-rejoins movements amounts tried marks)
-  rejoins-sound marks sound = times-keeps (rejoin movements amounts tried) Sound rejoin-sound (how-many-struck movements tried marks) marks sound
+  pub rejoins-sound : (marks : List Bool) → Sound movements amounts marks → Sound movements amounts (after-rejoins movements amounts tried marks)
+  rejoins-sound marks sound = times-keeps (rejoin movements amounts tried) (Sound movements amounts) rejoin-sound (how-many-struck movements tried marks) marks sound
 
-  none-rejoins : (marks : List Bool) → Sound marks → rejoins-next movements amounts tried (after-rejoins movements amounts tried marks) ≡ None
+  none-rejoins : (marks : List Bool) → Sound movements amounts marks → rejoins-next movements amounts tried (after-rejoins movements amounts tried marks) ≡ None
   none-rejoins marks sound =
-      ends (rejoins-next movements amounts tried) (rejoin movements amounts tried) (how-many-struck movements tried) Sound rejoin-still (λ w i holds e. (rejoin-shrinks w i (holds .long) e, rejoin-sound w holds)) marks sound
+      ends (rejoins-next movements amounts tried) (rejoin movements amounts tried) (how-many-struck movements tried) (Sound movements amounts) rejoin-still (λ w i holds e. (rejoin-shrinks w i (holds .long) e, rejoin-sound w holds)) marks sound
 
-  pub none-covered : (marks : List Bool) (i : ℕ) → Fitting movements → Sound marks → i < length movements →
+  pub none-covered : (marks : List Bool) (i : ℕ) → Fitting movements → Sound movements amounts marks → i < length movements →
       struck tried (after-rejoins movements amounts tried marks) i ≡ true → covered (after-posting movements amounts (after-rejoins movements amounts tried marks)) (at movements i) ≡ false
   none-covered marks i fitting sound below out =
       let end = after-rejoins movements amounts tried marks in
@@ -78,7 +75,25 @@ module _ (movements : List Movement) (amounts : List ℕ) (tried : List Bool) wh
       let is = rejoins-if-covered movements amounts end i fitting below (omega arith) (holds .safe) tried in
       sym (ap (λ b. b && covered (after-posting movements amounts end) (at movements i)) out) ∙ sym is ∙ cannot
 
-  -- for the loop: one more rejoins
-  pub after-rejoin : (marks : List Bool) (i : ℕ) → length movements ≤ length marks → rejoins-next movements amounts tried marks ≡ Some i →
-      after-rejoins movements amounts tried marks ≡ after-rejoins movements amounts tried (rejoin movements amounts tried marks)
-  after-rejoin marks i long e = times-less (rejoin movements amounts tried) (how-many-struck movements tried) marks (rejoin-shrinks marks i long e)
+  marked-length : (mark : Bool) (marks : List Bool) (next : Option ℕ) → length (marked mark marks next) ≡ length marks
+  marked-length mark marks None = refl
+  marked-length mark marks (Some i) = length-set marks i mark
+
+  -- what step 1 leaves
+  pub strikes-sound : (marks : List Bool) → Fitting movements → length movements ≤ length marks → Sound movements amounts (after-strikes movements amounts marks)
+  strikes-sound marks fitting long =
+      let kept = times-keeps (strike movements amounts) (λ w. length w ≡ length marks) (λ w e. marked-length false w (struck-next movements amounts w) ∙ e) (size movements marks) marks refl in
+      record { long = omega arith; safe = strikes-end movements amounts marks fitting }
+
+  -- one rejoined, or none could
+  pub rejoined-one : (marks next : List Bool) → Sound movements amounts marks → true ≡ isSome (rejoins-next movements amounts tried marks) → next ≡ rejoin movements amounts tried marks →
+      (how-many-struck movements tried next < how-many-struck movements tried marks) × Sound movements amounts next × (after-rejoins movements amounts tried next ≡ after-rejoins movements amounts tried marks)
+  rejoined-one marks next sound found e =
+      let who = found-some (rejoins-next movements amounts tried marks) found in
+      let less = rejoin-shrinks marks (who .0) (sound .long) (who .1) in
+      rw e (omega arith, rejoin-sound marks sound, sym (times-less (rejoin movements amounts tried) (how-many-struck movements tried) marks less))
+
+  pub rejoined-none : (marks next : List Bool) → false ≡ isSome (rejoins-next movements amounts tried marks) → next ≡ rejoin movements amounts tried marks → next ≡ after-rejoins movements amounts tried marks
+  rejoined-none marks next found e =
+      let still = rejoin-still marks (found-none (rejoins-next movements amounts tried marks) found) in
+      e ∙ still ∙ sym (times-same (how-many-struck movements tried marks) (rejoin movements amounts tried) marks still)

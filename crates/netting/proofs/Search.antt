@@ -8,7 +8,7 @@ use native.Mathlib.Omega.{arith}
 use Rattle.std.specs.Options.{isSome}
 use Rattle.std.specs.declared.option.Option.{Option}
 use Rattle.std.specs.declared.option.Option.the-variants.{Some, None}
-use Rattle.std.proofs.shelf.Tests.{cases-eq, cases-bool, cond-true, cond-false, both-ways, false≢true}
+use Rattle.std.proofs.shelf.Tests.{cases-eq, cases-bool, cond-true, cond-false, both-ways, true≢false, false≢true}
 use Rattle.netting.specs.Search.{or-at, firstBelow, lastBelow, noneBelow, times}
 
 -- n is the first that passes
@@ -122,6 +122,14 @@ times-less step left x fall = rw fall
 nothing-found : (found : Option ℕ) → not (isSome found) ≡ true → found ≡ None
 nothing-found None e = refl
 nothing-found (Some i) e = absurd (false≢true e)
+
+-- what a search found, from whether it did
+pub found-some : (found : Option ℕ) → true ≡ isSome found → (i : ℕ) × (found ≡ Some i)
+found-some None e = absurd (true≢false e)
+found-some (Some i) e = (i, refl)
+
+pub found-none : (found : Option ℕ) → false ≡ isSome found → found ≡ None
+found-none found e = nothing-found found (sym (ap not e))
 
 module _ (passes : ℕ → Bool) (n : ℕ) where
   pub none-from : firstBelow n passes ≡ None → noneBelow n passes ≡ true

@@ -5,6 +5,7 @@ use mathlib.Core.List.{List}
 use Prim.Native.Nat.{ℕ, suc, _+_, _<_, _≤_}
 use native.Mathlib.Omega.{arith}
 use lib.ListN.{length, set}
+use Rattle.std.specs.Options.{isSome}
 use Rattle.std.specs.declared.option.Option.{Option}
 use Rattle.std.specs.declared.option.Option.the-variants.{Some, None}
 use Rattle.std.proofs.shelf.Tests.{both-ways, and-parts}
@@ -13,7 +14,7 @@ use Rattle.netting.specs.Places.{places, at, only-takes}
 use Rattle.netting.specs.Positions.{in-package, size, short}
 use Rattle.netting.specs.Strikes.{chosen, chosen-at, marked, first-short, none-short, struck-next, strike, after-strikes}
 use Rattle.netting.specs.Limits.{Fitting}
-use Rattle.netting.proofs.Search.{last-some, last-none, first-some, none-from, ends, times-less}
+use Rattle.netting.proofs.Search.{last-some, last-none, first-some, none-from, found-some, found-none, ends, times-same, times-less}
 use Rattle.netting.proofs.Sums.{marked-less}
 use Rattle.netting.proofs.Shortage.{short-taker}
 
@@ -56,6 +57,15 @@ module _ (movements : List Movement) (amounts : List ℕ) where
   strikes-end marks fitting =
       none-struck (after-strikes movements amounts marks) fitting (ends (struck-next movements amounts) (strike movements amounts) (size movements) (λ _. Unit {0}) strike-still (λ w i _ e. (strike-shrinks w i e, tt)) marks tt)
 
-  -- for the loop: one strike more, or none
-  pub after-strike : (marks : List Bool) (i : ℕ) → struck-next movements amounts marks ≡ Some i → after-strikes movements amounts marks ≡ after-strikes movements amounts (strike movements amounts marks)
-  after-strike marks i e = times-less (strike movements amounts) (size movements) marks (strike-shrinks marks i e)
+  -- a strike was made, or none was left to make
+  pub struck-one : (marks next : List Bool) → true ≡ isSome (struck-next movements amounts marks) → next ≡ strike movements amounts marks →
+      (size movements next < size movements marks) × (after-strikes movements amounts next ≡ after-strikes movements amounts marks)
+  struck-one marks next found e =
+      let who = found-some (struck-next movements amounts marks) found in
+      let less = strike-shrinks marks (who .0) (who .1) in
+      rw e (omega arith, sym (times-less (strike movements amounts) (size movements) marks less))
+
+  pub struck-none : (marks next : List Bool) → false ≡ isSome (struck-next movements amounts marks) → next ≡ strike movements amounts marks → next ≡ after-strikes movements amounts marks
+  struck-none marks next found e =
+      let still = strike-still marks (found-none (struck-next movements amounts marks) found) in
+      e ∙ still ∙ sym (times-same (size movements marks) (strike movements amounts) marks still)

@@ -16,8 +16,14 @@ use Rattle.netting.specs.Places.{at, places}
 abbrev pub known-accounts : Party → Bool
 known-accounts party = ltb (party .securities) 32 && ltb (party .cash) 32
 
+abbrev pub known-kinds : Movement → Bool
+known-kinds m = ltb (m .security) 16 && ltb (m .currency) 2
+
+abbrev pub amounts-fit : Movement → Bool
+amounts-fit m = leb (m .quantity) 1000000000000 && leb (m .sum) 1000000000000
+
 abbrev pub fits : Movement → Bool
-fits m = ltb (m .security) 16 && ltb (m .currency) 2 && leb (m .quantity) 1000000000000 && leb (m .sum) 1000000000000 && known-accounts (m .seller) && known-accounts (m .buyer)
+fits m = known-kinds m && amounts-fit m && known-accounts (m .seller) && known-accounts (m .buyer)
 
 abbrev pub misfits : List Movement → ℕ → Bool
 misfits movements i = not (fits (at movements i))

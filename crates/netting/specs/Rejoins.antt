@@ -1,7 +1,8 @@
 -- Step 2: the lowest of the struck that can rejoin with no place short rejoins, again from the lowest until none can.
+use mathlib.Core.Path.{_≡_}
 use mathlib.Core.Bool.{Bool, true, false, not, cond, _&&_, _||_}
 use mathlib.Core.List.{List}
-use Prim.Native.Nat.{ℕ}
+use Prim.Native.Nat.{ℕ, _≤_}
 use lib.Dec.{eqb}
 use lib.IntN.{ℤ, pos}
 use lib.Signed.{leZ}
@@ -13,6 +14,11 @@ use Rattle.netting.specs.Search.{firstBelow, times}
 use Rattle.netting.specs.Places.{securities-leg, cash-leg}
 use Rattle.netting.specs.Positions.{in-package, sumMarked}
 use Rattle.netting.specs.Strikes.{marked, none-short, after-strikes}
+
+-- a mark for each movement, and no place short
+pub record Sound (movements : List Movement) (amounts : List ℕ) (marks : List Bool) : Type 0 where
+  pub long : length movements ≤ length marks
+  pub safe : none-short movements amounts marks ≡ true
 
 -- tried, and not in the package any more
 abbrev pub struck : List Bool → List Bool → ℕ → Bool

@@ -1,8 +1,10 @@
 // Netting: which movements of a package settle.
 pub mod leg;
+mod limits;
 pub mod net;
 pub mod positions;
 mod rejoins;
+mod settling;
 mod strikes;
 
 pub use leg::Leg;

@@ -8,3 +8,6 @@ pub mod Shortage
 pub mod Striking
 pub mod Covering
 pub mod Rejoining
+pub mod Within
+pub mod Rising
+pub mod Balance

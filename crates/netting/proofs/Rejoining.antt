@@ -52,7 +52,7 @@ module _ (movements : List Movement) (amounts : List ℕ) (tried : List Bool) wh
       let inside = getD-set-same marks i true false (omega arith) in
       let now-none : counts (set marks i true) i ≡ 0 = cond-true (in-package tried i) _ 0 (who .was-tried) ∙ cond-true _ 0 1 inside in
       let was-one : counts marks i ≡ 1 = cond-true (in-package tried i) _ 0 (who .was-tried) ∙ cond-false _ 0 1 (who .outside) in
-      let changed = sum-changed (counts marks) (counts (set marks i true)) (length movements) i below (λ j other. ap (λ b. cond (in-package tried j) (cond b 0 1) 0) (getD-set-other marks i j true false other)) in
+      let changed = sum-changed (counts marks) (counts (set marks i true)) (length movements) i below (λ j _ other. ap (λ b. cond (in-package tried j) (cond b 0 1) 0) (getD-set-other marks i j true false other)) in
       rw e (omega arith)
 
   rejoin-still : (marks : List Bool) → rejoins-next movements amounts tried marks ≡ None → rejoin movements amounts tried marks ≡ marks

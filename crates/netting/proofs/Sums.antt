@@ -26,18 +26,18 @@ sum-same f g zero same = refl
 sum-same f g (suc n) same = let here = same n (omega arith) in let before = sum-same f g n (λ i h. same i (omega arith)) in omega arith
 
 -- one term changed
-pub sum-changed : (f g : ℕ → ℕ) (n i : ℕ) → i < n → ((j : ℕ) → (j ≡ i → ⊥) → g j ≡ f j) → sumBelow n g + f i ≡ sumBelow n f + g i
+pub sum-changed : (f g : ℕ → ℕ) (n i : ℕ) → i < n → ((j : ℕ) → j < n → (j ≡ i → ⊥) → g j ≡ f j) → sumBelow n g + f i ≡ sumBelow n f + g i
 sum-changed f g zero i h other = absurd (omega arith)
 sum-changed f g (suc n) i h other =
     ⊎-elim
     (λ (q : i ≡ n).
-    let before = sum-same g f n (λ j l. other j (omega arith)) in
+    let before = sum-same g f n (λ j l. other j (omega arith) (omega arith)) in
     let e = ap f q in
     let d = ap g q in
     omega arith)
     (λ (q : i ≡ n → ⊥).
-    let before = sum-changed f g n i (omega arith) other in
-    let here = other n (λ (e : n ≡ i). q (sym e)) in
+    let before = sum-changed f g n i (omega arith) (λ j l. other j (omega arith)) in
+    let here = other n (omega arith) (λ (e : n ≡ i). q (sym e)) in
     omega arith)
     (cases-eq i n)
 
@@ -69,7 +69,7 @@ marked-more n marks f i below within out =
     let here = getD-set-same marks i true false within in
     let now-in : cond (in-package (set marks i true) i) (f i) 0 ≡ f i = cond-true _ (f i) 0 here in
     let was-out : cond (in-package marks i) (f i) 0 ≡ 0 = cond-false _ (f i) 0 out in
-    let changed = sum-changed (λ j. cond (in-package marks j) (f j) 0) (λ j. cond (in-package (set marks i true) j) (f j) 0) n i below (λ j other. ap (λ b. cond b (f j) 0) (getD-set-other marks i j true false other)) in
+    let changed = sum-changed (λ j. cond (in-package marks j) (f j) 0) (λ j. cond (in-package (set marks i true) j) (f j) 0) n i below (λ j _ other. ap (λ b. cond b (f j) 0) (getD-set-other marks i j true false other)) in
     omega arith
 
 -- a movement less
@@ -78,5 +78,5 @@ marked-less n marks f i below inside =
     let here = getD-set-same marks i false false (marked-within marks i inside) in
     let now-out : cond (in-package (set marks i false) i) (f i) 0 ≡ 0 = cond-false _ (f i) 0 here in
     let was-in : cond (in-package marks i) (f i) 0 ≡ f i = cond-true _ (f i) 0 inside in
-    let changed = sum-changed (λ j. cond (in-package marks j) (f j) 0) (λ j. cond (in-package (set marks i false) j) (f j) 0) n i below (λ j other. ap (λ b. cond b (f j) 0) (getD-set-other marks i j false false other)) in
+    let changed = sum-changed (λ j. cond (in-package marks j) (f j) 0) (λ j. cond (in-package (set marks i false) j) (f j) 0) n i below (λ j _ other. ap (λ b. cond b (f j) 0) (getD-set-other marks i j false false other)) in
     omega arith

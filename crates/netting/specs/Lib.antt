@@ -4,3 +4,4 @@ pub mod Positions
 pub mod Strikes
 pub mod Rejoins
 pub mod Limits
+pub mod Theorems

@@ -11,3 +11,4 @@ pub mod Rejoining
 pub mod Within
 pub mod Rising
 pub mod Balance
+pub mod Laws

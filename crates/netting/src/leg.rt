@@ -1,6 +1,8 @@
 // The legs of a movement.
 ghost use mathlib.Core.Path.{_≡_};
 ghost use Rattle.netting.specs.Places.{securities-leg, cash-leg, reversed as reversed-leg, leg-takes, leg-brings};
+use crate::places::cash_place;
+use crate::places::securities_place;
 use movement::Movement;
 
 // An amount that leaves one place and enters another.
@@ -15,10 +17,9 @@ impl Leg {
     pub fn of_securities(m: &Movement) -> Leg
         ensures { λ r. ⌜ r ≡ securities-leg (now (m .entry)) ⌝ }
     {
-        let row = 32 * usize::from(m.security);
         Leg {
-            from: row + usize::from(m.giver()),
-            to: row + usize::from(m.receiver()),
+            from: securities_place(m.security, m.giver()),
+            to: securities_place(m.security, m.receiver()),
             amount: m.quantity,
         }
     }
@@ -26,10 +27,9 @@ impl Leg {
     pub fn of_cash(m: &Movement) -> Leg
         ensures { λ r. ⌜ r ≡ cash-leg (now (m .entry)) ⌝ }
     {
-        let row = 32 * (16 + usize::from(m.currency));
         Leg {
-            from: row + usize::from(m.payer()),
-            to: row + usize::from(m.payee()),
+            from: cash_place(m.currency, m.payer()),
+            to: cash_place(m.currency, m.payee()),
             amount: m.sum,
         }
     }

@@ -1,11 +1,16 @@
 // Netting: which movements of a package settle.
-pub mod leg;
+mod leg;
 mod limits;
-pub mod net;
-pub mod positions;
+mod net;
+mod places;
+mod positions;
 mod rejoins;
-mod settling;
+mod steps;
 mod strikes;
 
-pub use leg::Leg;
-pub use net::Net;
+pub use net::MOVEMENTS;
+pub use places::PLACES;
+pub use places::cash_place;
+pub use places::securities_place;
+pub use positions::position;
+pub use steps::settling;

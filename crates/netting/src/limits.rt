@@ -1,12 +1,13 @@
 // What the netting takes.
 ghost use mathlib.Core.Path.{_≡_};
+ghost use mathlib.Core.Bool.{true};
 ghost use Prim.Native.Nat.{_-_};
 ghost use lib.ListN.{length};
 ghost use Rattle.netting.specs.Search.{noneBelow};
 ghost use Rattle.netting.specs.Places.{places};
-ghost use Rattle.netting.specs.Limits.{known-accounts, known-kinds, amounts-fit, fits as fits-limits, misfits, falls, too-large, fitting as fitting-of, bounded};
+ghost use Rattle.netting.specs.Limits.{known-accounts, known-kinds, amounts-fit, fits as fits-limits, misfits, falls, too-large, fitting as fitting-of, bounded, Fitting, Bounded};
 use crate::net::MOVEMENTS;
-use crate::positions::PLACES;
+use crate::places::PLACES;
 use movement::Movement;
 use movement::Party;
 
@@ -74,14 +75,16 @@ fn all_small(amounts: &[u64; PLACES]) -> bool
 
 // Whether the movements can be netted, whatever their order.
 pub fn fitting(movements: &[Movement]) -> bool
-    ensures { λ r. ⌜ r ≡ fitting-of (now (movements .entry)) ⌝ }
+    ensures test { λ r. ⌜ r ≡ fitting-of (now (movements .entry)) ⌝ }
+    ensures facts { λ r. ⌜ (r ≡ true → Fitting (now (movements .entry))) ⌝ }
 {
     movements.len() <= MOVEMENTS && all_fit(movements)
 }
 
 // Whether movements and amounts are within the limits.
 pub fn within_limits(movements: &[Movement], amounts: &[u64; PLACES]) -> bool
-    ensures { λ r. ⌜ r ≡ bounded (now (movements .entry)) (now (amounts .entry)) ⌝ }
+    ensures test { λ r. ⌜ r ≡ bounded (now (movements .entry)) (now (amounts .entry)) ⌝ }
+    ensures facts { λ r. ⌜ (r ≡ true → Bounded (now (movements .entry)) (now (amounts .entry))) ⌝ }
 {
     fitting(movements) && all_rise(movements) && all_small(amounts)
 }

@@ -5,7 +5,7 @@ ghost use Prim.Native.Nat.{_<_};
 ghost use lib.ListN.{length, set};
 ghost use Rattle.netting.specs.Positions.{in-package, Kept};
 ghost use Rattle.netting.specs.Limits.{Fitting};
-use crate::positions::PLACES;
+use crate::places::PLACES;
 use crate::positions::enter;
 use crate::positions::leave;
 use movement::Movement;

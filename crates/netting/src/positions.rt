@@ -1,18 +1,20 @@
 // Positions of places, kept up to date.
 ghost use mathlib.Core.Path.{_≡_};
-ghost use mathlib.Core.Bool.{cond, true};
+ghost use mathlib.Core.Bool.{cond, true, _&&_};
 ghost use Prim.Native.Nat.{ℕ, _+_, _<_};
-ghost use lib.Dec.{eqb};
+ghost use lib.Dec.{eqb, ltb};
 ghost use lib.IntN.{pos, _+ℤ_, _-ℤ_};
-ghost use lib.ListN.{length, getD};
+ghost use lib.ListN.{getD};
+ghost use Rattle.std.specs.Options.{isSome};
+ghost use Rattle.std.specs.Slices.{found};
 ghost use Rattle.netting.specs.Places.{leg-takes, leg-brings, takes, brings};
-ghost use Rattle.netting.specs.Positions.{Kept, Posted};
-ghost use Rattle.netting.specs.Limits.{Near, Roomy, Leg-fits, Fitting, fits};
+ghost use Rattle.netting.specs.Positions.{position as position-of, Kept, Posted};
+ghost use Rattle.netting.specs.Limits.{Near, Roomy, Leg-fits, Fitting, fits, fitting as fitting-of};
 use crate::leg::Leg;
+use crate::limits::fitting;
+use crate::net::MOVEMENTS;
+use crate::places::PLACES;
 use movement::Movement;
-
-// How many places there are: 32 accounts of 16 kinds of securities and 2 of cash.
-pub const PLACES: usize = 576;
 
 // Raises one position.
 fn shift(positions: &mut [i64; PLACES], place: usize, by: i64)
@@ -65,7 +67,7 @@ pub fn leave(positions: &mut [i64; PLACES], m: &Movement)
 }
 
 // The positions of all places under a package.
-pub fn positions_of(movements: &[Movement], marks: &[bool; 128]) -> [i64; PLACES]
+pub fn positions_of(movements: &[Movement], marks: &[bool; MOVEMENTS]) -> [i64; PLACES]
     requires { ⌜ Fitting (now movements) ⌝ }
     ensures { λ r. ⌜ Kept (now (movements .entry)) (now (marks .entry)) r ⌝ }
 {
@@ -76,4 +78,16 @@ pub fn positions_of(movements: &[Movement], marks: &[bool; 128]) -> [i64; PLACES
         }
     }
     positions
+}
+
+// The position of a place under a package.
+pub fn position(movements: &[Movement], marks: &[bool; MOVEMENTS], place: usize) -> Option<i64>
+    ensures answered { λ r. ⌜ isSome r ≡ (ltb place 576 && fitting-of (now (movements .entry))) ⌝ }
+    ensures value { λ r. ⌜ found r (λ z. z ≡ position-of (now (movements .entry)) (now (marks .entry)) place) ⌝ }
+{
+    if place < PLACES && fitting(movements) {
+        Some(positions_of(movements, marks)[place])
+    } else {
+        None
+    }
 }

@@ -11,7 +11,7 @@ ghost use Rattle.netting.specs.Limits.{Roomy, Small, Bounded, Leg-fits, fits};
 use crate::leg::Leg;
 use crate::net::MOVEMENTS;
 use crate::net::Net;
-use crate::positions::PLACES;
+use crate::places::PLACES;
 use crate::strikes::amount_after;
 use movement::Movement;
 

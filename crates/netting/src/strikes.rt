@@ -14,7 +14,7 @@ ghost use Rattle.netting.specs.Limits.{Roomy, Fitting, Small, Bounded, fits};
 use crate::leg::Leg;
 use crate::net::MOVEMENTS;
 use crate::net::Net;
-use crate::positions::PLACES;
+use crate::places::PLACES;
 use movement::Movement;
 
 // What a movement takes from a place.

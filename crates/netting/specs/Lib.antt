@@ -5,3 +5,4 @@ pub mod Strikes
 pub mod Rejoins
 pub mod Limits
 pub mod Theorems
+pub mod Cases

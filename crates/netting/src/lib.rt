@@ -1,4 +1,5 @@
 // Netting: which movements of a package settle.
+mod cases;
 mod leg;
 mod limits;
 mod net;

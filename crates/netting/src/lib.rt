@@ -8,6 +8,8 @@ mod positions;
 mod rejoins;
 mod steps;
 mod strikes;
+#[cfg(test)]
+mod tests;
 
 pub use net::MOVEMENTS;
 pub use places::PLACES;

@@ -16,7 +16,8 @@ use Rattle.netting.specs.Places.{accounts, place, cash-row, at, leg-takes, leg
 use Rattle.netting.specs.Positions.{in-package}
 use Rattle.netting.specs.Limits.{fits, Fitting}
 use Rattle.netting.specs.Theorems.{Balanced}
-use Rattle.netting.proofs.Sums.{sum-same, sum-changed, sum-of-both, sum-of-none, sum-exchanged}
+use Rattle.register.proofs.Sums.{sum-same, sum-changed}
+use Rattle.netting.proofs.Sums.{sum-of-both, sum-of-none, sum-exchanged}
 
 -- an amount at one place, summed over the accounts of a row
 row-sum : (row of account n : ℕ) → account < 32 → sumBelow accounts (λ a. cond (eqb (place row a) (place of account)) n 0) ≡ cond (eqb row of) n 0

@@ -13,7 +13,7 @@ use Rattle.netting.specs.Places.{at, takes, brings}
 use Rattle.netting.specs.Positions.{sumMarked, in-package, position-by, Kept}
 use Rattle.netting.specs.Limits.{Fitting, Near, Roomy}
 use Rattle.netting.proofs.Legs.{takes-most, brings-most}
-use Rattle.netting.proofs.Sums.{sum-bound}
+use Rattle.register.proofs.Sums.{sum-bound}
 
 -- a sum over at most 128 that are marked
 marked-most : (n : ℕ) (marks : List Bool) (f : ℕ → ℕ) → n ≤ 128 → ((i : ℕ) → i < n → f i ≤ 2000000000000) → sumMarked n marks f ≤ 256000000000000

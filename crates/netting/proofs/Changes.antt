@@ -11,7 +11,8 @@ use Rattle.std.proofs.shelf.Tests.{cond-true, cond-false}
 use Rattle.movement.specs.declared.movement.Movement.{Movement}
 use Rattle.netting.specs.Places.{at, takes, brings}
 use Rattle.netting.specs.Positions.{sumMarked, in-package, position-by, position, Kept, Posted}
-use Rattle.netting.proofs.Sums.{sum-more, marked-more, marked-less}
+use Rattle.register.proofs.Sums.{sum-more}
+use Rattle.netting.proofs.Sums.{marked-more, marked-less}
 
 -- one more summand, of a movement in the package or not
 sum-in : (n : ℕ) (marks : List Bool) (f : ℕ → ℕ) → in-package marks n ≡ true → sumMarked (n + 1) marks f ≡ sumMarked n marks f + f n

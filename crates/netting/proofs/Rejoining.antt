@@ -17,7 +17,7 @@ use Rattle.netting.specs.Strikes.{none-short, marked, struck-next, strike, aft
 use Rattle.netting.specs.Rejoins.{Sound, struck, covered, can-rejoin, rejoins-next, rejoin, how-many-struck, after-rejoins}
 use Rattle.netting.specs.Limits.{Fitting}
 use Rattle.netting.proofs.Search.{first-some, first-none, found-some, found-none, ends, times-same, times-less, times-keeps}
-use Rattle.netting.proofs.Sums.{sum-changed}
+use Rattle.register.proofs.Sums.{sum-changed}
 use Rattle.netting.proofs.Striking.{strikes-end}
 use Rattle.netting.proofs.Covering.{rejoins-if-covered}
 

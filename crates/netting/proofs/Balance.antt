@@ -1,9 +1,9 @@
 -- Of each kind as much is brought as is taken.
-use mathlib.Core.Path.{_≡_, refl, sym, _∙_, ap}
+use mathlib.Core.Path.{_≡_, refl, sym, _∙_}
 use mathlib.Core.Bool.{Bool, true, false, cond}
 use mathlib.Core.List.{List}
 use mathlib.Core.Logic.{⊎-elim}
-use Prim.Native.Nat.{ℕ, _+_, _<_}
+use Prim.Native.Nat.{ℕ, _<_}
 use native.Mathlib.Omega.{arith}
 use lib.Dec.{eqb}
 use lib.ListN.{length}
@@ -12,7 +12,7 @@ use Rattle.std.proofs.shelf.Ways.{tells}
 use Rattle.register.specs.Holdings.{sumBelow}
 use Rattle.movement.specs.declared.movement.Movement.{Movement}
 use Rattle.movement.specs.Movements.{giver, receiver, payer, payee}
-use Rattle.netting.specs.Places.{accounts, place, cash-row, at, leg-takes, leg-brings, securities-leg, cash-leg, takes, brings}
+use Rattle.netting.specs.Places.{accounts, place, cash-row, at, takes, brings}
 use Rattle.netting.specs.Positions.{in-package}
 use Rattle.netting.specs.Limits.{fits, Fitting}
 use Rattle.netting.specs.Theorems.{Balanced}

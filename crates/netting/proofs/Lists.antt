@@ -1,8 +1,8 @@
 -- What a list holds after one place is written.
-use mathlib.Core.Path.{_≡_, refl, sym, _∙_, ap}
+use mathlib.Core.Path.{_≡_, refl, _∙_}
 use mathlib.Core.Bool.{Bool, true, false, cond}
 use mathlib.Core.List.{List}
-use mathlib.Core.Logic.{inl, inr, ⊎-elim}
+use mathlib.Core.Logic.{⊎-elim}
 use Prim.Native.Nat.{ℕ, _<_, _≤_}
 use native.Mathlib.Omega.{arith}
 use lib.Dec.{eqb}
@@ -11,13 +11,6 @@ use lib.ListN.{length, getD, set}
 use Rattle.std.proofs.shelf.Signed.{ints}
 use Rattle.std.proofs.shelf.Lists.{getD-set-same, getD-set-other, getD-past}
 use Rattle.std.proofs.shelf.Tests.{cases-eq, cases-lt, cond-true, cond-false, eq-eqb, ne-eqb, both-ways}
-
-pub getD-set : {X : Type 0} (xs : List X) (i : ℕ) (x : X) (j : ℕ) (d : X) → i < length xs → getD (set xs i x) j d ≡ cond (eqb j i) x (getD xs j d)
-getD-set xs i x j d within =
-    ⊎-elim
-    (λ (q : j ≡ i). rw q (getD-set-same xs i x d within ∙ sym (cond-true (eqb i i) x (getD xs i d) (eq-eqb i i refl))))
-    (λ (q : j ≡ i → ⊥). getD-set-other xs i j x d q ∙ sym (cond-false (eqb j i) x (getD xs j d) (ne-eqb j i q)))
-    (cases-eq j i)
 
 -- one number raised
 pub getD-raised : (xs : List ℤ) (i : ℕ) (x by : ℤ) (j : ℕ) → i < length xs → x ≡ getD xs i (pos 0) +ℤ by → getD (set xs i x) j (pos 0) ≡ getD xs j (pos 0) +ℤ cond (eqb j i) by (pos 0)

@@ -1,19 +1,16 @@
 -- The order of the list is the order of numbers.
 use mathlib.Core.Path.{_≡_}
-use mathlib.Core.Bool.{Bool, true, _&&_}
+use mathlib.Core.Bool.{Bool, _&&_}
 use mathlib.Core.List.{List}
 use mathlib.Core.Logic.{⊎-elim}
 use Prim.Native.Nat.{ℕ, zero, suc, _+_, _-_, _<_, _≤_}
-use native.Mathlib.Nat.{add-zero, add-suc}
-use native.Mathlib.Numerals.{add-one}
+use native.Mathlib.Nat.{add-zero}
 use native.Mathlib.Omega.{arith}
 use lib.ListN.{length}
-use Rattle.std.specs.declared.option.Option.the-variants.{Some}
 use Rattle.std.proofs.shelf.Tests.{cases-lt, and-from, both-ways}
 use Rattle.movement.specs.declared.movement.Movement.{Movement}
 use Rattle.netting.specs.Places.{at, only-takes}
 use Rattle.netting.specs.Positions.{in-package}
-use Rattle.netting.specs.Strikes.{chosen-at}
 use Rattle.netting.specs.Rejoins.{can-rejoin}
 use Rattle.netting.specs.Limits.{Bounded}
 use Rattle.netting.specs.Theorems.{Highest-struck, Lowest-rejoins}

@@ -2,9 +2,9 @@
 use mathlib.Core.Path.{_≡_, refl, sym, _∙_}
 use mathlib.Core.Bool.{Bool, true, false, _&&_}
 use mathlib.Core.List.{List}
-use Prim.Native.Nat.{ℕ, suc, _+_, _<_, _≤_}
+use Prim.Native.Nat.{ℕ, suc, _<_}
 use native.Mathlib.Omega.{arith}
-use lib.ListN.{length, set}
+use lib.ListN.{length}
 use Rattle.std.specs.Options.{isSome}
 use Rattle.std.specs.declared.option.Option.{Option}
 use Rattle.std.specs.declared.option.Option.the-variants.{Some, None}
@@ -12,7 +12,7 @@ use Rattle.std.proofs.shelf.Tests.{both-ways, and-parts}
 use Rattle.movement.specs.declared.movement.Movement.{Movement}
 use Rattle.netting.specs.Places.{places, at, only-takes}
 use Rattle.netting.specs.Positions.{in-package, size, short}
-use Rattle.netting.specs.Strikes.{chosen, chosen-at, marked, first-short, none-short, struck-next, strike, after-strikes}
+use Rattle.netting.specs.Strikes.{chosen-at, first-short, none-short, struck-next, strike, after-strikes}
 use Rattle.netting.specs.Limits.{Fitting}
 use Rattle.netting.proofs.Search.{last-some, last-none, first-some, none-from, found-some, found-none, ends, times-same, times-less}
 use Rattle.netting.proofs.Sums.{marked-less}

@@ -13,6 +13,7 @@ use movement::Party;
 
 // The most that a movement moves, and the most that a place holds.
 const MOST_MOVED: u64 = 1_000_000_000_000;
+
 const MOST_HELD: u64 = 1_000_000_000_000_000;
 
 fn accounts_known(party: &Party) -> bool

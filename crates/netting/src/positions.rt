@@ -3,7 +3,7 @@ ghost use mathlib.Core.Path.{_≡_};
 ghost use mathlib.Core.Bool.{cond, true, _&&_};
 ghost use Prim.Native.Nat.{ℕ, _+_, _<_};
 ghost use lib.Dec.{eqb, ltb};
-ghost use lib.IntN.{pos, _+ℤ_, _-ℤ_};
+ghost use lib.IntN.{pos, _+ℤ_};
 ghost use lib.ListN.{getD};
 ghost use Rattle.std.specs.Options.{isSome};
 ghost use Rattle.std.specs.Slices.{found};
@@ -63,7 +63,11 @@ pub fn leave(positions: &mut [i64; PLACES], m: &Movement)
     requires room { ⌜ Roomy (now positions) ⌝ }
     ensures { λ _. ⌜ Posted (now (positions .entry)) (now (positions .exit)) (takes (now (m .entry))) (brings (now (m .entry))) ⌝ }
 {
-    post_both(positions, Leg::of_securities(m).reversed(), Leg::of_cash(m).reversed());
+    post_both(
+        positions,
+        Leg::of_securities(m).reversed(),
+        Leg::of_cash(m).reversed(),
+    );
 }
 
 // The positions of all places under a package.

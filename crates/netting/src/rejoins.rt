@@ -45,7 +45,13 @@ impl Net {
     }
 
     // Whether a movement was struck and can rejoin with no place short.
-    fn can_rejoin(&self, movements: &[Movement], amounts: &[u64; PLACES], tried: &[bool; MOVEMENTS], i: usize) -> bool
+    fn can_rejoin(
+        &self,
+        movements: &[Movement],
+        amounts: &[u64; PLACES],
+        tried: &[bool; MOVEMENTS],
+        i: usize,
+    ) -> bool
         requires bounded { ⌜ Bounded (now movements) (now amounts) ⌝ }
         requires kept { ⌜ Kept (now movements) (now self .marks) (now self .positions) ⌝ }
         requires safe { ⌜ none-short (now movements) (now amounts) (now self .marks) ≡ true ⌝ }
@@ -56,7 +62,12 @@ impl Net {
     }
 
     // The lowest of the struck that can rejoin with no place short.
-    fn first_to_rejoin(&self, movements: &[Movement], amounts: &[u64; PLACES], tried: &[bool; MOVEMENTS]) -> Option<usize>
+    fn first_to_rejoin(
+        &self,
+        movements: &[Movement],
+        amounts: &[u64; PLACES],
+        tried: &[bool; MOVEMENTS],
+    ) -> Option<usize>
         requires bounded { ⌜ Bounded (now movements) (now amounts) ⌝ }
         requires kept { ⌜ Kept (now movements) (now self .marks) (now self .positions) ⌝ }
         requires safe { ⌜ none-short (now movements) (now amounts) (now self .marks) ≡ true ⌝ }
@@ -71,7 +82,12 @@ impl Net {
     }
 
     // Lets one struck movement rejoin. Says whether one could.
-    pub fn rejoin_once(&mut self, movements: &[Movement], amounts: &[u64; PLACES], tried: &[bool; MOVEMENTS]) -> bool
+    pub fn rejoin_once(
+        &mut self,
+        movements: &[Movement],
+        amounts: &[u64; PLACES],
+        tried: &[bool; MOVEMENTS],
+    ) -> bool
         requires bounded { ⌜ Bounded (now movements) (now amounts) ⌝ }
         requires kept { ⌜ Kept (now movements) (now self .marks) (now self .positions) ⌝ }
         requires safe { ⌜ none-short (now movements) (now amounts) (now self .marks) ≡ true ⌝ }

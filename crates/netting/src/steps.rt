@@ -26,7 +26,12 @@ impl Net {
     }
 
     // Step 2.
-    fn rejoin_all(&mut self, movements: &[Movement], amounts: &[u64; PLACES], tried: &[bool; MOVEMENTS])
+    fn rejoin_all(
+        &mut self,
+        movements: &[Movement],
+        amounts: &[u64; PLACES],
+        tried: &[bool; MOVEMENTS],
+    )
         requires bounded { ⌜ Bounded (now movements) (now amounts) ⌝ }
         requires kept { ⌜ Kept (now movements) (now self .marks) (now self .positions) ⌝ }
         requires sound { ⌜ Sound (now movements) (now amounts) (now self .marks) ⌝ }
@@ -37,7 +42,11 @@ impl Net {
 }
 
 // Who settles, within the limits.
-fn settled(movements: &[Movement], tried: &[bool; MOVEMENTS], amounts: &[u64; PLACES]) -> [bool; MOVEMENTS]
+fn settled(
+    movements: &[Movement],
+    tried: &[bool; MOVEMENTS],
+    amounts: &[u64; PLACES],
+) -> [bool; MOVEMENTS]
     requires { ⌜ Bounded (now movements) (now amounts) ⌝ }
     ensures settling { λ w. ⌜ w ≡ settling-of (now (movements .entry)) (now (amounts .entry)) (now (tried .entry)) ⌝ }
     ensures some_taker { λ _. ⌜ Some-taker (now (movements .entry)) (now (amounts .entry)) ⌝ }
@@ -58,7 +67,11 @@ fn settled(movements: &[Movement], tried: &[bool; MOVEMENTS], amounts: &[u64; PL
 }
 
 // Who settles of the movements that are tried, given the amounts of all places. None where these are not within the limits.
-pub fn settling(movements: &[Movement], tried: &[bool; MOVEMENTS], amounts: &[u64; PLACES]) -> Option<[bool; MOVEMENTS]>
+pub fn settling(
+    movements: &[Movement],
+    tried: &[bool; MOVEMENTS],
+    amounts: &[u64; PLACES],
+) -> Option<[bool; MOVEMENTS]>
     ensures answered { λ r. ⌜ isSome r ≡ bounded (now (movements .entry)) (now (amounts .entry)) ⌝ }
     ensures settling { λ r. ⌜ found r (λ w. w ≡ settling-of (now (movements .entry)) (now (amounts .entry)) (now (tried .entry))) ⌝ }
     ensures some_taker { λ r. ⌜ found r (λ _. Some-taker (now (movements .entry)) (now (amounts .entry))) ⌝ }

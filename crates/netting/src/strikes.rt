@@ -1,10 +1,9 @@
 // Step 1: strikes.
 ghost use mathlib.Core.Path.{_≡_};
 ghost use mathlib.Core.Bool.{true, false};
-ghost use Prim.Native.Nat.{ℕ, _≤_, _<_};
+ghost use Prim.Native.Nat.{_<_};
 ghost use lib.IntN.{pos};
 ghost use lib.Signed.{ltZ};
-ghost use lib.ListN.{length, getD};
 ghost use Rattle.std.specs.Options.{isSome};
 ghost use Rattle.netting.specs.Search.{firstBelow};
 ghost use Rattle.netting.specs.Places.{places, takes as takes-from, brings as brings-to, only-takes};

@@ -23,7 +23,14 @@ fn party(securities: u8, cash: u8) -> Party {
     }
 }
 
-fn moving(number: u32, security: u8, quantity: u64, currency: u8, sum: u64, accounts: Accounts) -> Movement {
+fn moving(
+    number: u32,
+    security: u8,
+    quantity: u64,
+    currency: u8,
+    sum: u64,
+    accounts: Accounts,
+) -> Movement {
     let Accounts(giver, receiver, payer, payee) = accounts;
     Movement {
         number,
@@ -41,7 +48,14 @@ fn moving(number: u32, security: u8, quantity: u64, currency: u8, sum: u64, acco
 
 // Security 0 from the first account to the second, against litas from the second to the first.
 fn trade(number: u32, quantity: u64, sum: u64, first: u8, second: u8) -> Movement {
-    moving(number, 0, quantity, 0, sum, Accounts(first, second, second, first))
+    moving(
+        number,
+        0,
+        quantity,
+        0,
+        sum,
+        Accounts(first, second, second, first),
+    )
 }
 
 fn litas(account: u8, amount: u64) -> (usize, u64) {
@@ -79,21 +93,38 @@ fn chain_of_two() -> Result<(), Fail> {
 
 #[test]
 fn three_sales() -> Result<(), Fail> {
-    let movements = [trade(1, 6, 60, 1, 2), trade(2, 5, 50, 1, 3), trade(3, 4, 40, 1, 4)];
-    let marks = settles(&movements, &[pieces(1, 10), litas(2, 60), litas(3, 50), litas(4, 40)])?;
+    let movements = [
+        trade(1, 6, 60, 1, 2),
+        trade(2, 5, 50, 1, 3),
+        trade(3, 4, 40, 1, 4),
+    ];
+    let marks = settles(
+        &movements,
+        &[pieces(1, 10), litas(2, 60), litas(3, 50), litas(4, 40)],
+    )?;
     check(marks[0] && !marks[1] && marks[2])
 }
 
 #[test]
 fn second_look() -> Result<(), Fail> {
-    let movements = [trade(1, 5, 50, 2, 5), trade(2, 8, 80, 1, 4), trade(3, 5, 50, 1, 2)];
-    let marks = settles(&movements, &[pieces(1, 5), litas(5, 50), litas(4, 80), litas(2, 50)])?;
+    let movements = [
+        trade(1, 5, 50, 2, 5),
+        trade(2, 8, 80, 1, 4),
+        trade(3, 5, 50, 1, 2),
+    ];
+    let marks = settles(
+        &movements,
+        &[pieces(1, 5), litas(5, 50), litas(4, 80), litas(2, 50)],
+    )?;
     check(marks[0] && !marks[1] && marks[2])
 }
 
 #[test]
 fn self_leg() -> Result<(), Fail> {
-    let movements = [trade(1, 5, 50, 1, 2), moving(2, 0, 100, 0, 30, Accounts(1, 1, 3, 4))];
+    let movements = [
+        trade(1, 5, 50, 1, 2),
+        moving(2, 0, 100, 0, 30, Accounts(1, 1, 3, 4)),
+    ];
     let marks = settles(&movements, &[pieces(1, 4), litas(2, 50), litas(3, 30)])?;
     check(!marks[0] && marks[1])
 }
@@ -105,7 +136,15 @@ fn both_currencies() -> Result<(), Fail> {
         moving(2, 0, 5, 1, 50, Accounts(1, 3, 3, 1)),
         moving(3, 0, 5, 0, 50, Accounts(1, 4, 4, 1)),
     ];
-    let marks = settles(&movements, &[pieces(1, 15), litas(3, 49), (cash_place(1, 3), 49), litas(4, 50)])?;
+    let marks = settles(
+        &movements,
+        &[
+            pieces(1, 15),
+            litas(3, 49),
+            (cash_place(1, 3), 49),
+            litas(4, 50),
+        ],
+    )?;
     check(!marks[0] && !marks[1] && marks[2])
 }
 
@@ -117,7 +156,10 @@ fn order_of_places() -> Result<(), Fail> {
         moving(3, 1, 5, 0, 50, Accounts(6, 7, 5, 6)),
         moving(4, 1, 5, 0, 50, Accounts(7, 6, 8, 7)),
     ];
-    let marks = settles(&movements, &[pieces(1, 5), litas(2, 50), litas(5, 50), litas(8, 50)])?;
+    let marks = settles(
+        &movements,
+        &[pieces(1, 5), litas(2, 50), litas(5, 50), litas(8, 50)],
+    )?;
     check(marks[0] && !marks[1] && marks[2] && marks[3])
 }
 
@@ -134,8 +176,14 @@ fn one_movement() -> Result<(), Fail> {
     check(enough[0])?;
     let short = settles(&movements, &[pieces(1, 5), litas(2, 49)])?;
     check(!short[0])?;
-    check_eq(position(&movements, &[true; MOVEMENTS], cash_place(0, 2)).ok_or("refused")?, -50)?;
-    check_eq(position(&movements, &[false; MOVEMENTS], cash_place(0, 2)).ok_or("refused")?, 0)
+    check_eq(
+        position(&movements, &[true; MOVEMENTS], cash_place(0, 2)).ok_or("refused")?,
+        -50,
+    )?;
+    check_eq(
+        position(&movements, &[false; MOVEMENTS], cash_place(0, 2)).ok_or("refused")?,
+        0,
+    )
 }
 
 // Rising numbers from 1, one piece for one unit of litas from account 1 to account 2.

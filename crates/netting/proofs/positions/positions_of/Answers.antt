@@ -1,9 +1,7 @@
 use mathlib.Core.Path.{refl}
 use lib.IntN.{pos}
-use lib.ListN.{length}
 use native.Mathlib.Omega.{arith}
 use borrow.Author.Needs.{needs}
-use Rattle.std.proofs.shelf.Signed.{ints}
 use Rattle.std.proofs.shelf.Lists.{getD-replicate}
 use Rattle.netting.proofs.Bounds.{position-near}
 use Rattle.netting.proofs.Changes.{position-in, position-out}
@@ -22,17 +20,17 @@ enter-requires c κs = record {
 pub loop-i-again : need.loop-i-again
 loop-i-again c =
     elim (c .if-marks-i .came) [
-      then-marks-i w ↦ (
+      | then-marks-i w ↦ (
         search needs,
         λ p h. let more = position-in (c .args .movements .now) (c .args .marks .now) (c .loop-i .i) p (w .if-marks-i .taken) in
-        let entered = w .enter .ensures p in
-        let before = c .loop-i .inv .1 p h in
-        search needs,
+            let entered = w .enter .ensures p in
+            let before = c .loop-i .inv .1 p h in
+            search needs,
       )
-    | else-marks-i w ↦ (
+      | else-marks-i w ↦ (
         search needs,
         λ p h. let more = position-out (c .args .movements .now) (c .args .marks .now) (c .loop-i .i) p (w .if-marks-i .left) in
-        let before = c .loop-i .inv .1 p h in
-        search needs,
+            let before = c .loop-i .inv .1 p h in
+            search needs,
       )
     ]

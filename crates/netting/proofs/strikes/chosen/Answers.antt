@@ -16,6 +16,6 @@ pub loop-i-again : need.loop-i-again
 loop-i-again c =
     c .loop-i .inv ∙ last-skip (λ i. in-package (c .args .marks .now) i && only-takes (at (c .args .movements .now) i) (c .args .place)) (c .loop-i .i) (omega arith) (
     elim (c .else-marks-i .came) [
-      else-marks-i·by·then-marks-i·else-only-takes w ↦ and-right _ _ (sym (w .only-takes .ensures) ∙ w .if-only-takes .left)
-    | else-marks-i·by·else-marks-i w ↦ and-left _ _ (w .if-marks-i .left)
+      | else-marks-i·by·then-marks-i·else-only-takes w ↦ and-right _ _ (sym (w .only-takes .ensures) ∙ w .if-only-takes .left)
+      | else-marks-i·by·else-marks-i w ↦ and-left _ _ (w .if-marks-i .left)
     ])

@@ -1,6 +1,5 @@
 use mathlib.Core.Path.{_≡_}
 use mathlib.Core.Bool.{_&&_}
-use lib.ListN.{length}
 use Rattle.netting.specs.Search.{lastBelow}
 use Rattle.netting.specs.Places.{at, only-takes}
 use Rattle.netting.specs.Positions.{in-package}

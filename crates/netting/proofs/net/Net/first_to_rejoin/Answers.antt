@@ -1,5 +1,4 @@
 use mathlib.Core.Path.{sym, _∙_}
-use native.Mathlib.Omega.{arith}
 use Rattle.netting.specs.Rejoins.{can-rejoin}
 use Rattle.netting.proofs.Search.{first-is, first-none-more}
 use Rattle.netting.proofs.net.Net.first_to_rejoin.Needs as need

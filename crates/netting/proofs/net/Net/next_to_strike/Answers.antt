@@ -1,4 +1,4 @@
-use mathlib.Core.Path.{sym, _∙_, ap}
+use mathlib.Core.Path.{_∙_, ap}
 use Rattle.netting.specs.Strikes.{chosen-at}
 use Rattle.netting.proofs.Bounds.{kept-roomy}
 use Rattle.netting.proofs.Shortage.{first-short-in}

@@ -2,7 +2,6 @@
 use mathlib.Core.Path.{_≡_, refl, sym, _∙_, ap}
 use mathlib.Core.Bool.{Bool, true, false, _&&_}
 use Prim.Native.Nat.{ℕ, zero, suc, _+_, _*_, _≤_, _<_}
-use native.Mathlib.Nat.{suc-mul}
 use native.Mathlib.Numerals.{add-one}
 use native.Mathlib.Omega.{arith}
 use mathlib.Core.Logic.{inl, inr, ⊎-elim}
@@ -11,14 +10,8 @@ use lib.Dec.{leb}
 use Rattle.std.proofs.shelf.Ways.{tells}
 use Rattle.std.proofs.shelf.Tests.{lt-leb}
 use Rattle.register.specs.Holdings.{Holdings, sumBelow, total, limit, with-amount}
+use Rattle.register.proofs.Sums.{sum-same, sum-changed}
 use Rattle.book.specs.Opening.{all-below, sums-within}
-
-pub sum-bound : (f : ℕ → ℕ) (m : ℕ) → ((i : ℕ) → f i ≤ m) → (n : ℕ) → sumBelow n f ≤ n * m
-sum-bound f m each zero = omega arith
-sum-bound f m each (suc n) = omega (arith, sum-bound f m each n, each n, suc-mul n m)
-
-pub sum-more : (f : ℕ → ℕ) (n : ℕ) → sumBelow (n + 1) f ≡ sumBelow n f + f n
-sum-more f n = rw add-one
 
 pub all-more : (f : ℕ → Bool) (n : ℕ) → all-below (n + 1) f ≡ (all-below n f && f n)
 all-more f n = rw add-one
@@ -41,31 +34,11 @@ term-within f (suc n) i h =
     (λ (q : i ≡ n → ⊥). omega (arith, term-within f n i (omega arith)))
     (cases-eq i n)
 
-pub sum-same : (f g : ℕ → ℕ) (n : ℕ) → ((i : ℕ) → i < n → f i ≡ g i) → sumBelow n f ≡ sumBelow n g
-sum-same f g zero same = refl
-sum-same f g (suc n) same = let here = same n (omega arith) in let before = sum-same f g n (λ i h. same i (omega arith)) in omega arith
-
--- one term changed
-pub sum-changed : (f g : ℕ → ℕ) (n i : ℕ) → i < n → ((j : ℕ) → (j ≡ i → ⊥) → g j ≡ f j) → sumBelow n g + f i ≡ sumBelow n f + g i
-sum-changed f g zero i h other = absurd (omega arith)
-sum-changed f g (suc n) i h other =
-    ⊎-elim
-    (λ (q : i ≡ n).
-    let before = sum-same g f n (λ j l. other j (omega arith)) in
-    let e = ap f q in
-    let d = ap g q in
-    omega arith)
-    (λ (q : i ≡ n → ⊥).
-    let before = sum-changed f g n i (omega arith) other in
-    let here = other n (λ (e : n ≡ i). q (sym e)) in
-    omega arith)
-    (cases-eq i n)
-
 -- the sum of the kind of which one account's amount was changed
 pub total-changed : (h : Holdings) (k a n : ℕ) → a < h .accounts → total (with-amount h k a n) k + h .amount k a ≡ total h k + n
 total-changed h k a n known =
     let here : with-amount h k a n .amount k a ≡ n = grind (arith, tells) in
-    let changed = sum-changed (h .amount k) (with-amount h k a n .amount k) (h .accounts) a known (λ j other. grind (arith, tells)) in
+    let changed = sum-changed (h .amount k) (with-amount h k a n .amount k) (h .accounts) a known (λ j _ other. grind (arith, tells)) in
     omega arith
 
 -- .. and of every other kind

@@ -1,3 +1,4 @@
 mod Alike
 mod Parts
 mod Places
+pub mod Sums

@@ -2,14 +2,14 @@ use Prim.Native.Nat.{_≤_}
 use native.Mathlib.Omega.{arith}
 use borrow.Author.Needs.{needs}
 use Rattle.register.specs.Holdings.{sumBelow}
-use Rattle.book.proofs.Totals.{sum-bound, sum-more}
+use Rattle.register.proofs.Sums.{sum-bound, sum-more}
 use Rattle.book.proofs.sums.sum.Needs as need
 
 pub add-sum : need.add-sum
 add-sum g c =
     let few = g .R·Register·met .«few_accounts» (c .args .register .now) in
     let each = g .R·Register·met .bounded (c .args .register .now) (c .args .kind) in
-    let bound = sum-bound (g .R·Register .shows (c .args .register .now) .amount (c .args .kind)) 1000000000000000 each (c .loop-account .account) in
+    let bound = sum-bound (g .R·Register .shows (c .args .register .now) .amount (c .args .kind)) 1000000000000000 (c .loop-account .account) (λ i _. each i) in
     let last = each (c .loop-account .account) in
     omega arith
 
@@ -20,5 +20,5 @@ pub returns : need.returns
 returns g c =
     let few = g .R·Register·met .«few_accounts» (c .args .register .now) in
     let each = g .R·Register·met .bounded (c .args .register .now) (c .args .kind) in
-    let bound = sum-bound (g .R·Register .shows (c .args .register .now) .amount (c .args .kind)) 1000000000000000 each (c .loop-account .account) in
+    let bound = sum-bound (g .R·Register .shows (c .args .register .now) .amount (c .args .kind)) 1000000000000000 (c .loop-account .account) (λ i _. each i) in
     record { value = search needs; bound = omega arith }

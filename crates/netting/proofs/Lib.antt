@@ -1,0 +1,14 @@
+pub mod Lists
+pub mod Sums
+pub mod Search
+pub mod Legs
+pub mod Bounds
+pub mod Changes
+pub mod Shortage
+pub mod Striking
+pub mod Covering
+pub mod Rejoining
+pub mod Within
+pub mod Rising
+pub mod Balance
+pub mod Laws

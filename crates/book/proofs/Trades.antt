@@ -3,19 +3,22 @@ use mathlib.Core.Path.{_≡_, refl, sym, _∙_, ap}
 use mathlib.Core.Bool.{true, false}
 use mathlib.Core.List.{List, [], _∷_, _++_}
 use Prim.Native.Nat.{ℕ, _<_, _≤_}
-use lib.Dec.{ltb}
+use lib.Dec.{leb, ltb}
 use lib.ListN.{length}
-use Rattle.std.proofs.shelf.Tests.{lt-ltb, le-ltb}
+use Rattle.std.proofs.shelf.Tests.{and-from, and-parts, lt-ltb, le-ltb}
+use Rattle.std.specs.declared.option.Option.the-variants.{None}
 use Rattle.std.specs.declared.result.Result.{Result}
 use Rattle.std.specs.declared.result.Result.the-variants.{Ok, Err}
 use Rattle.fault.specs.declared.fault.Fault.{Fault}
 use Rattle.fault.specs.declared.fault.Fault.the-variants.{BookFull}
-use Rattle.fault.specs.Questions.{asked, ask}
-use Rattle.fault.proofs.Asking.{asked-stops, asked-goes, asked-value}
+use Rattle.fault.specs.Questions.{asked, ask, first-no}
+use Rattle.fault.proofs.Asking.{all-hold, asked-stops, asked-goes, asked-value, first-no-parts}
 use Rattle.movement.specs.declared.class.Class.{Class}
 use Rattle.movement.specs.declared.movement.Movement.{Movement}
 use Rattle.movement.specs.declared.trade.Trade.{Trade}
-use Rattle.movement.specs.Forming.{movement-of}
+use Rattle.movement.specs.Bounds.{TermsFit, from-one-to, most-traded, movement-fits, party-fits}
+use Rattle.movement.specs.Forming.{movement-of, side-questions}
+use Rattle.movement.proofs.Fitting.{party-fit}
 use Rattle.book.specs.Daily.{Daily, basic-questions, both-sides, room-left, trade-questions, class-known, traded}
 
 module _ (d : Daily) (t : Trade) where
@@ -49,3 +52,20 @@ module _ (d : Daily) (t : Trade) where
         ∙ ap (λ b. asked (ask b BookFull ∷ []) (traded d t)) (lt-ltb (length (d .movements)) 128 room)
         ∙ ap (λ x. Ok (movement-of (d .terms) x t)) same
         ∙ ap Ok made
+
+-- a trade whose questions were passed forms a movement within its bounds
+pub trade-fits : (d : Daily) (t : Trade) → TermsFit (d .accounts) (d .terms) → first-no (trade-questions d t) ≡ None → movement-fits (d .accounts) (d .kinds) (traded d t) ≡ true
+trade-fits d t fit passed =
+    let parts = first-no-parts (basic-questions d t) (both-sides d t ++ room-left d) passed in
+    let sides = first-no-parts (both-sides d t) (room-left d) (parts .1) in
+    let each = first-no-parts (side-questions (d .terms) (d .accounts) (t .seller)) (side-questions (d .terms) (d .accounts) (t .buyer)) (sides .0) in
+    let basic = all-hold (basic-questions d t) (parts .0) in
+    let m = traded d t in
+    let seller = party-fit (d .accounts) (d .terms) (t .seller) fit (each .0) in
+    let buyer = party-fit (d .accounts) (d .terms) (t .buyer) fit (each .1) in
+    and-from (leb 1 (t .number)) _ (and-parts (leb 1 (t .number)) (ltb (d .highest) (t .number)) (basic .0) .0)
+    (and-from (ltb (t .security) (d .kinds)) _ (basic .1 .1 .0)
+    (and-from (from-one-to most-traded (t .quantity)) _ (basic .1 .1 .1 .0)
+    (and-from (ltb (t .currency) 2) _ (basic .1 .1 .1 .1 .0)
+    (and-from (from-one-to most-traded (t .sum)) _ (basic .1 .1 .1 .1 .1 .0)
+    (and-from (party-fits (d .accounts) (m .seller)) (party-fits (d .accounts) (m .buyer)) seller buyer)))))

@@ -19,6 +19,7 @@ use Rattle.movement.specs.declared.terms.Setting.{Setting}
 use Rattle.movement.specs.declared.trade.Trade.{Trade}
 use Rattle.movement.specs.Letters.{class-of}
 use Rattle.movement.specs.Agreed.{Agreed}
+use Rattle.movement.specs.Bounds.{from-one-to, most-traded}
 use Rattle.movement.specs.Settings.{terms-questions, terms-after}
 use Rattle.movement.specs.Forming.{side-questions, movement-of}
 use Rattle.movement.specs.Consents.{has-duty, silent, consented, is-afternoon}
@@ -40,10 +41,6 @@ with-agreed d t = record { accounts = d .accounts; kinds = d .kinds; day = d .da
 abbrev pub with-movements : Daily → ℕ → List Movement → Daily
 with-movements d n ms = record { accounts = d .accounts; kinds = d .kinds; day = d .day; half = d .half; highest = n; terms = d .terms; movements = ms }
 
--- the largest quantity and sum of a trade: 10^12
-abbrev pub most-traded : ℕ
-most-traded = 1000000000000
-
 -- how many movements a book holds
 abbrev pub most-movements : ℕ
 most-movements = 128
@@ -51,9 +48,6 @@ most-movements = 128
 -- how far ahead a trade can settle
 abbrev pub longest-wait : ℕ
 longest-wait = 30
-
-abbrev pub from-one-to : ℕ → ℕ → Bool
-from-one-to most n = leb 1 n && leb n most
 
 -- what is asked of a trade before its sides
 abbrev pub basic-questions : Daily → Trade → List Question

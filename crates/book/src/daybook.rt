@@ -1,6 +1,10 @@
 // What a book keeps of its day, its members and its movements.
+ghost use mathlib.Core.Bool.{true};
+ghost use mathlib.Core.Path.{_≡_};
 ghost use Prim.Native.Nat.{_≤_};
-ghost use Rattle.std.specs.Of.Vec.{vec-cap, vec-len};
+ghost use Rattle.std.specs.Of.Vec.{vec-cap, vec-items, vec-len};
+ghost use Rattle.movement.specs.Bounds.{TermsFit, all-fit};
+ghost use Rattle.movement.specs.Terms.{agreed};
 use movement::Half;
 use movement::Movement;
 use movement::Terms;
@@ -21,4 +25,8 @@ pub struct Daybook {
     pub(crate) movements: Vec<Movement>,
     ghost few: { vec-len movements ≤ 128 },
     ghost room: { 128 ≤ vec-cap movements },
+    // custodians that were agreed are participants
+    ghost agreements: { TermsFit accounts (agreed terms) },
+    // the numbers of every movement are within their bounds
+    ghost bounds: { all-fit accounts kinds (vec-items movements) ≡ true },
 }

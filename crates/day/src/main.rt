@@ -189,25 +189,111 @@ fn trade(number: u32, clearing: [u8; 4]) -> Call {
     })
 }
 
-fn deal(rt: &LibcRuntime, book: &mut Depository, statement: &mut Statement) -> Result<(), AnyError> {
-    step(rt, book, statement, "Trade 1, before any terms are set", trade(1, *b"    "))?;
-    step(rt, book, statement, "Member 1 names participant 1 for all its trades", terms(1, 1))?;
-    step(rt, book, statement, "Member 2 names participant 2 for all its trades", terms(2, 2))?;
-    step(rt, book, statement, "Trade 1: member 1 sells 6 shares to member 2 for 5.00 euro", trade(1, *b"    "))?;
-    step(rt, book, statement, "Participant 1, who gives the shares, consents", Call::Consent(1, 1))?;
-    step(rt, book, statement, "Participant 3, who has no duty, consents", Call::Consent(1, 3))?;
-    step(rt, book, statement, "Participant 2, who pays, consents", Call::Consent(1, 2))?;
-    step(rt, book, statement, "Participant 2 consents once more", Call::Consent(1, 2))?;
+fn deal(
+    rt: &LibcRuntime,
+    book: &mut Depository,
+    statement: &mut Statement,
+) -> Result<(), AnyError> {
+    step(
+        rt,
+        book,
+        statement,
+        "Trade 1, before any terms are set",
+        trade(1, *b"    "),
+    )?;
+    step(
+        rt,
+        book,
+        statement,
+        "Member 1 names participant 1 for all its trades",
+        terms(1, 1),
+    )?;
+    step(
+        rt,
+        book,
+        statement,
+        "Member 2 names participant 2 for all its trades",
+        terms(2, 2),
+    )?;
+    step(
+        rt,
+        book,
+        statement,
+        "Trade 1: member 1 sells 6 shares to member 2 for 5.00 euro",
+        trade(1, *b"    "),
+    )?;
+    step(
+        rt,
+        book,
+        statement,
+        "Participant 1, who gives the shares, consents",
+        Call::Consent(1, 1),
+    )?;
+    step(
+        rt,
+        book,
+        statement,
+        "Participant 3, who has no duty, consents",
+        Call::Consent(1, 3),
+    )?;
+    step(
+        rt,
+        book,
+        statement,
+        "Participant 2, who pays, consents",
+        Call::Consent(1, 2),
+    )?;
+    step(
+        rt,
+        book,
+        statement,
+        "Participant 2 consents once more",
+        Call::Consent(1, 2),
+    )?;
     Ok(())
 }
 
-fn call_off(rt: &LibcRuntime, book: &mut Depository, statement: &mut Statement) -> Result<(), AnyError> {
-    step(rt, book, statement, "Trade 2: the same, participant 3 acting for the buyer", trade(2, *b"V003"))?;
-    step(rt, book, statement, "Participant 3 consents", Call::Consent(2, 3))?;
+fn call_off(
+    rt: &LibcRuntime,
+    book: &mut Depository,
+    statement: &mut Statement,
+) -> Result<(), AnyError> {
+    step(
+        rt,
+        book,
+        statement,
+        "Trade 2: the same, participant 3 acting for the buyer",
+        trade(2, *b"V003"),
+    )?;
+    step(
+        rt,
+        book,
+        statement,
+        "Participant 3 consents",
+        Call::Consent(2, 3),
+    )?;
     step(rt, book, statement, "Trade 2 is cancelled", Call::Cancel(2))?;
-    step(rt, book, statement, "Trade 2 is cancelled once more", Call::Cancel(2))?;
-    step(rt, book, statement, "Trade 2 is entered again", trade(2, *b"    "))?;
-    step(rt, book, statement, "Shares of participant 1, nothing being settled yet", Call::Tell(shares(1)))?;
+    step(
+        rt,
+        book,
+        statement,
+        "Trade 2 is cancelled once more",
+        Call::Cancel(2),
+    )?;
+    step(
+        rt,
+        book,
+        statement,
+        "Trade 2 is entered again",
+        trade(2, *b"    "),
+    )?;
+    step(
+        rt,
+        book,
+        statement,
+        "Shares of participant 1, nothing being settled yet",
+        Call::Tell(shares(1)),
+    )?;
     Ok(())
 }
 

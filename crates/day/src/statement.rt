@@ -34,7 +34,11 @@ impl Statement {
         match call {
             Call::PayIn(place, amount) => self.enter(place, i128::from(amount)),
             Call::PayOut(place, amount) => self.enter(place, -i128::from(amount)),
-            Call::Terms(_) | Call::Trade(_) | Call::Consent(_, _) | Call::Cancel(_) | Call::Tell(_) => Ok(()),
+            Call::Terms(_)
+            | Call::Trade(_)
+            | Call::Consent(_, _)
+            | Call::Cancel(_)
+            | Call::Tell(_) => Ok(()),
         }
     }
 

@@ -55,6 +55,15 @@ first-no-goes (q ∷ qs) rs e =
       | false ↦ λ (d : Some (q .fault) ≡ None). absurd (some-is-not-none refl d)
     ] e
 
+-- none of the first was answered no, and none of the others
+pub first-no-parts : (qs rs : List Question) → first-no (qs ++ rs) ≡ None → (first-no qs ≡ None) × (first-no rs ≡ None)
+first-no-parts [] rs e = (refl, e)
+first-no-parts (q ∷ qs) rs e =
+    elim (q .holds) as (λ b. cond b (first-no (qs ++ rs)) (Some (q .fault)) ≡ None → (cond b (first-no qs) (Some (q .fault)) ≡ None) × (first-no rs ≡ None)) [
+      | true ↦ λ (d : first-no (qs ++ rs) ≡ None). first-no-parts qs rs d
+      | false ↦ λ (d : Some (q .fault) ≡ None). absurd (some-is-not-none refl d)
+    ] e
+
 module _ {A B : Type 0} (qs rs : List Question) (v : A) (w : B) where
   -- refused by the first, refused by all
   pub asked-stops : {f : Fault} → asked qs v ≡ Err f → asked (qs ++ rs) w ≡ Err f

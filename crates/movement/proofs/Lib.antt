@@ -1,2 +1,3 @@
 pub mod TermTables
 pub mod Sides
+pub mod Fitting

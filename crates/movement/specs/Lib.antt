@@ -6,3 +6,4 @@ pub mod Settings
 pub mod Clearing
 pub mod Forming
 pub mod Consents
+pub mod Bounds

@@ -17,7 +17,7 @@ use crate::places::PLACES;
 use movement::Movement;
 
 // What a movement takes from a place.
-pub fn takes(m: &Movement, place: usize) -> u64
+fn takes(m: &Movement, place: usize) -> u64
     requires { ⌜ fits (now m) ≡ true ⌝ }
     ensures { λ r. ⌜ r ≡ takes-from (now (m .entry)) place ⌝ }
 {
@@ -25,7 +25,7 @@ pub fn takes(m: &Movement, place: usize) -> u64
 }
 
 // What a movement brings to a place.
-pub fn brings(m: &Movement, place: usize) -> u64
+fn brings(m: &Movement, place: usize) -> u64
     requires { ⌜ fits (now m) ≡ true ⌝ }
     ensures { λ r. ⌜ r ≡ brings-to (now (m .entry)) place ⌝ }
 {

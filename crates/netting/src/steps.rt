@@ -2,7 +2,7 @@
 ghost use mathlib.Core.Path.{_≡_};
 ghost use Rattle.std.specs.Options.{isSome};
 ghost use Rattle.std.specs.Slices.{found};
-ghost use Rattle.netting.specs.Positions.{Kept};
+ghost use Rattle.netting.specs.Tables.{Kept};
 ghost use Rattle.netting.specs.Strikes.{after-strikes};
 ghost use Rattle.netting.specs.Rejoins.{Sound, after-rejoins, settling as settling-of};
 ghost use Rattle.netting.specs.Limits.{bounded, Bounded};

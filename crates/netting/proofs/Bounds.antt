@@ -9,8 +9,9 @@ use Rattle.std.proofs.shelf.Signed.{ints}
 use Rattle.std.proofs.shelf.Tests.{cond-both}
 use Rattle.movement.specs.declared.movement.Movement.{Movement}
 use Rattle.netting.specs.Places.{at, takes, brings}
-use Rattle.netting.specs.Positions.{sumMarked, in-package, position-by, Kept}
-use Rattle.netting.specs.Limits.{Fitting, Near, Roomy}
+use Rattle.netting.specs.Positions.{sumMarked, in-package, position-by}
+use Rattle.netting.specs.Limits.{Fitting}
+use Rattle.netting.specs.Tables.{Kept, Near, Roomy}
 use Rattle.netting.proofs.Legs.{takes-most, brings-most}
 use Rattle.register.proofs.Sums.{sum-bound}
 

@@ -10,7 +10,8 @@ use Rattle.std.proofs.shelf.Signed.{ints}
 use Rattle.std.proofs.shelf.Tests.{cond-true, cond-false}
 use Rattle.movement.specs.declared.movement.Movement.{Movement}
 use Rattle.netting.specs.Places.{at, takes, brings}
-use Rattle.netting.specs.Positions.{sumMarked, in-package, position-by, position, Kept, Posted}
+use Rattle.netting.specs.Positions.{sumMarked, in-package, position-by, position}
+use Rattle.netting.specs.Tables.{Kept, Posted}
 use Rattle.register.proofs.Sums.{sum-more}
 use Rattle.netting.proofs.Sums.{marked-more, marked-less}
 

@@ -14,7 +14,8 @@ use Rattle.std.proofs.shelf.Ways.{tells}
 use Rattle.movement.specs.declared.movement.Movement.{Movement}
 use Rattle.netting.specs.declared.leg.Leg.{Leg}
 use Rattle.netting.specs.Places.{at, leg-takes, leg-brings, securities-leg, cash-leg, takes, brings}
-use Rattle.netting.specs.Positions.{in-package, after-posting, after-in, Kept}
+use Rattle.netting.specs.Positions.{in-package, after-posting}
+use Rattle.netting.specs.Tables.{after-in, Kept}
 use Rattle.netting.specs.Strikes.{none-short}
 use Rattle.netting.specs.Limits.{fits, Fitting}
 use Rattle.netting.specs.Rejoins.{leg-covered, covered, struck, can-rejoin}

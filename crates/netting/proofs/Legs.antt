@@ -9,7 +9,8 @@ use Rattle.std.proofs.shelf.Ways.{tells}
 use Rattle.movement.specs.declared.movement.Movement.{Movement}
 use Rattle.netting.specs.declared.leg.Leg.{Leg}
 use Rattle.netting.specs.Places.{leg-takes, leg-brings, takes, brings, only-takes}
-use Rattle.netting.specs.Limits.{fits, Leg-fits, Near}
+use Rattle.netting.specs.Limits.{fits}
+use Rattle.netting.specs.Tables.{Leg-fits, Near}
 
 -- no leg takes or brings more than its amount
 leg-takes-most : (leg : Leg) (p : ℕ) → leg-takes leg p ≤ leg .amount

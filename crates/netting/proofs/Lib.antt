@@ -12,3 +12,4 @@ pub mod Within
 pub mod Rising
 pub mod Balance
 pub mod Laws
+pub mod Tried

@@ -12,7 +12,8 @@ use Rattle.std.proofs.shelf.Tests.{and-from}
 use Rattle.movement.specs.declared.movement.Movement.{Movement}
 use Rattle.netting.specs.Search.{firstBelow}
 use Rattle.netting.specs.Places.{places, at, takes, brings, only-takes}
-use Rattle.netting.specs.Positions.{in-package, brought, taken, short, after-in, Kept}
+use Rattle.netting.specs.Positions.{in-package, brought, taken, short}
+use Rattle.netting.specs.Tables.{after-in, Kept}
 use Rattle.netting.specs.Strikes.{first-short, none-short}
 use Rattle.netting.specs.Limits.{Fitting}
 use Rattle.netting.proofs.Legs.{takes-only}

@@ -6,7 +6,7 @@ use Prim.Native.Nat.{ℕ}
 use lib.ListN.{length, set, replicate}
 use Rattle.movement.specs.declared.movement.Movement.{Movement}
 use Rattle.movement.specs.declared.class.Class.the-variants.{Central}
-use Rattle.netting.specs.Places.{place}
+use Rattle.netting.specs.Places.{place, cash-row}
 use Rattle.netting.specs.Rejoins.{settling}
 
 pub record Case : Type 0 where
@@ -47,11 +47,21 @@ moving number security quantity giver receiver currency sum payer payee = record
 abbrev trade : (number quantity sum first second : ℕ) → Movement
 trade number quantity sum first second = moving number 0 quantity first second 0 sum second first
 
--- account 1 holds enough for a chain of two
+-- the places of an account: of security 0 and of both currencies
+abbrev pieces : ℕ → ℕ
+pieces = place 0
+
+abbrev litas : ℕ → ℕ
+litas = place (cash-row 0)
+
+abbrev euro : ℕ → ℕ
+euro = place (cash-row 1)
+
+-- account 1 sells to account 2, which sells on to account 3; account 1 holds this much
 abbrev chain : ℕ → List Bool → Case
 chain amount settles = record {
   movements = trade 1 10 500 1 2 ∷ trade 2 10 500 2 3 ∷ [];
-  held = (place 0 1, amount) ∷ (place 16 3, 500) ∷ [];
+  held = (pieces 1, amount) ∷ (litas 3, 500) ∷ [];
   settles = settles;
 }
 
@@ -59,7 +69,7 @@ chain amount settles = record {
 abbrev three-sales : Case
 three-sales = record {
   movements = trade 1 6 60 1 2 ∷ trade 2 5 50 1 3 ∷ trade 3 4 40 1 4 ∷ [];
-  held = (place 0 1, 10) ∷ (place 16 2, 60) ∷ (place 16 3, 50) ∷ (place 16 4, 40) ∷ [];
+  held = (pieces 1, 10) ∷ (litas 2, 60) ∷ (litas 3, 50) ∷ (litas 4, 40) ∷ [];
   settles = true ∷ false ∷ true ∷ [];
 }
 
@@ -67,7 +77,7 @@ three-sales = record {
 abbrev second-look : Case
 second-look = record {
   movements = trade 1 5 50 2 5 ∷ trade 2 8 80 1 4 ∷ trade 3 5 50 1 2 ∷ [];
-  held = (place 0 1, 5) ∷ (place 16 5, 50) ∷ (place 16 4, 80) ∷ (place 16 2, 50) ∷ [];
+  held = (pieces 1, 5) ∷ (litas 5, 50) ∷ (litas 4, 80) ∷ (litas 2, 50) ∷ [];
   settles = true ∷ false ∷ true ∷ [];
 }
 
@@ -75,7 +85,7 @@ second-look = record {
 abbrev self-leg : Case
 self-leg = record {
   movements = trade 1 5 50 1 2 ∷ moving 2 0 100 1 1 0 30 3 4 ∷ [];
-  held = (place 0 1, 4) ∷ (place 16 2, 50) ∷ (place 16 3, 30) ∷ [];
+  held = (pieces 1, 4) ∷ (litas 2, 50) ∷ (litas 3, 30) ∷ [];
   settles = false ∷ true ∷ [];
 }
 
@@ -83,7 +93,7 @@ self-leg = record {
 abbrev both-currencies : Case
 both-currencies = record {
   movements = moving 1 0 5 1 3 0 50 3 1 ∷ moving 2 0 5 1 3 1 50 3 1 ∷ moving 3 0 5 1 4 0 50 4 1 ∷ [];
-  held = (place 0 1, 15) ∷ (place 16 3, 49) ∷ (place 17 3, 49) ∷ (place 16 4, 50) ∷ [];
+  held = (pieces 1, 15) ∷ (litas 3, 49) ∷ (euro 3, 49) ∷ (litas 4, 50) ∷ [];
   settles = false ∷ false ∷ true ∷ [];
 }
 
@@ -91,7 +101,7 @@ both-currencies = record {
 abbrev order-of-places : Case
 order-of-places = record {
   movements = trade 1 5 50 1 2 ∷ trade 2 5 50 1 5 ∷ moving 3 1 5 6 7 0 50 5 6 ∷ moving 4 1 5 7 6 0 50 8 7 ∷ [];
-  held = (place 0 1, 5) ∷ (place 16 2, 50) ∷ (place 16 5, 50) ∷ (place 16 8, 50) ∷ [];
+  held = (pieces 1, 5) ∷ (litas 2, 50) ∷ (litas 5, 50) ∷ (litas 8, 50) ∷ [];
   settles = true ∷ false ∷ true ∷ true ∷ [];
 }
 

@@ -4,5 +4,6 @@ pub mod Positions
 pub mod Strikes
 pub mod Rejoins
 pub mod Limits
+pub mod Tables
 pub mod Theorems
 pub mod Cases

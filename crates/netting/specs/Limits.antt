@@ -5,11 +5,8 @@ use mathlib.Core.List.{List}
 use Prim.Native.Nat.{ℕ, _+_, _-_, _≤_, _<_}
 use lib.Dec.{leb, ltb}
 use lib.ListN.{length, getD}
-use lib.IntN.{ℤ, pos, negℤ}
-use lib.Signed.{_≤ℤ_}
 use Rattle.movement.specs.declared.movement.Movement.{Movement}
 use Rattle.movement.specs.declared.party.Party.{Party}
-use Rattle.netting.specs.declared.leg.Leg.{Leg}
 use Rattle.netting.specs.Search.{noneBelow}
 use Rattle.netting.specs.Places.{at, places}
 
@@ -52,17 +49,3 @@ pub record Bounded (movements : List Movement) (amounts : List ℕ) : Type 0 whe
   pub fitting : Fitting movements
   pub rising : (i : ℕ) → i + 1 < length movements → at movements i .number < at movements (i + 1) .number
   pub small : Small amounts
-
--- within n of 0
-pub record Near (n : ℕ) (z : ℤ) : Type 0 where
-  pub above : negℤ (pos n) ≤ℤ z
-  pub below : z ≤ℤ pos n
-
--- every position can take another movement
-abbrev pub Roomy : List ℤ → Type 0
-Roomy table = (p : ℕ) → p < 576 → Near 1000000000000000 (getD table p (pos 0))
-
-pub record Leg-fits (leg : Leg) : Type 0 where
-  pub from : leg .from < 576
-  pub to : leg .to < 576
-  pub amount : leg .amount ≤ 1000000000000

@@ -1,8 +1,7 @@
 -- What a package brings to a place and takes from it. A package is a list of marks beside the movements.
-use mathlib.Core.Path.{_≡_}
 use mathlib.Core.Bool.{Bool, false, cond}
 use mathlib.Core.List.{List}
-use Prim.Native.Nat.{ℕ, _<_}
+use Prim.Native.Nat.{ℕ}
 use lib.IntN.{ℤ, pos, _+ℤ_, _-ℤ_}
 use lib.Signed.{ltZ}
 use lib.ListN.{length, getD}
@@ -47,15 +46,3 @@ after-posting movements amounts marks p = pos (getD amounts p 0) +ℤ position m
 
 abbrev pub short : List Movement → List ℕ → List Bool → ℕ → Bool
 short movements amounts marks p = ltZ (after-posting movements amounts marks p) (pos 0)
-
--- the same by a table of positions
-abbrev pub after-in : List ℕ → List ℤ → ℕ → ℤ
-after-in amounts table p = pos (getD amounts p 0) +ℤ getD table p (pos 0)
-
--- a table of the positions of a package
-abbrev pub Kept : List Movement → List Bool → List ℤ → Type 0
-Kept movements marks table = (p : ℕ) → p < 576 → getD table p (pos 0) ≡ position movements marks p
-
--- a table before and after so much is brought to each place and so much taken from it
-abbrev pub Posted : List ℤ → List ℤ → (ℕ → ℕ) → (ℕ → ℕ) → Type 0
-Posted before after brings takes = (p : ℕ) → getD after p (pos 0) ≡ getD before p (pos 0) +ℤ pos (brings p) -ℤ pos (takes p)

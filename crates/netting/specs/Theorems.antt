@@ -37,6 +37,10 @@ module _ (movements : List Movement) (amounts : List ℕ) where
   abbrev pub Lowest-rejoins : List Bool → Type 0
   Lowest-rejoins tried = (marks : List Bool) (i j : ℕ) → rejoins-next movements amounts tried marks ≡ Some i → j < length movements → can-rejoin movements amounts tried marks j ≡ true → at movements i .number ≤ at movements j .number
 
+-- whoever is marked was tried
+abbrev pub Only-tried : List Bool → List Bool → Type 0
+Only-tried tried marks = (i : ℕ) → in-package marks i ≡ true → in-package tried i ≡ true
+
 -- of each kind as much is brought, over all accounts, as is taken
 abbrev pub Balanced : List Movement → List Bool → Type 0
 Balanced movements marks = (row : ℕ) → row < 18 → sumBelow accounts (λ account. brought movements marks (place row account)) ≡ sumBelow accounts (λ account. taken movements marks (place row account))

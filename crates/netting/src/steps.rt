@@ -2,11 +2,11 @@
 ghost use mathlib.Core.Path.{_≡_};
 ghost use Rattle.std.specs.Options.{isSome};
 ghost use Rattle.std.specs.Slices.{found};
-ghost use Rattle.netting.specs.Positions.{Kept};
+ghost use Rattle.netting.specs.Tables.{Kept};
 ghost use Rattle.netting.specs.Strikes.{after-strikes};
 ghost use Rattle.netting.specs.Rejoins.{Sound, after-rejoins, settling as settling-of};
 ghost use Rattle.netting.specs.Limits.{bounded, Bounded};
-ghost use Rattle.netting.specs.Theorems.{Some-taker, Strikes-end, None-short, None-covered, Highest-struck, Lowest-rejoins, Balanced};
+ghost use Rattle.netting.specs.Theorems.{Some-taker, Strikes-end, None-short, None-covered, Only-tried, Highest-struck, Lowest-rejoins, Balanced};
 use crate::limits::within_limits;
 use crate::net::MOVEMENTS;
 use crate::net::Net;
@@ -53,6 +53,7 @@ fn settled(
     ensures strikes_end { λ _. ⌜ Strikes-end (now (movements .entry)) (now (amounts .entry)) ⌝ }
     ensures none_short { λ w. ⌜ None-short (now (movements .entry)) (now (amounts .entry)) w ⌝ }
     ensures none_covered { λ w. ⌜ None-covered (now (movements .entry)) (now (amounts .entry)) (now (tried .entry)) w ⌝ }
+    ensures only_tried { λ w. ⌜ Only-tried (now (tried .entry)) w ⌝ }
     ensures highest_struck { λ _. ⌜ Highest-struck (now (movements .entry)) (now (amounts .entry)) ⌝ }
     ensures lowest_rejoins { λ _. ⌜ Lowest-rejoins (now (movements .entry)) (now (amounts .entry)) (now (tried .entry)) ⌝ }
     ensures balanced { λ w. ⌜ Balanced (now (movements .entry)) w ⌝ }
@@ -78,6 +79,7 @@ pub fn settling(
     ensures strikes_end { λ r. ⌜ found r (λ _. Strikes-end (now (movements .entry)) (now (amounts .entry))) ⌝ }
     ensures none_short { λ r. ⌜ found r (λ w. None-short (now (movements .entry)) (now (amounts .entry)) w) ⌝ }
     ensures none_covered { λ r. ⌜ found r (λ w. None-covered (now (movements .entry)) (now (amounts .entry)) (now (tried .entry)) w) ⌝ }
+    ensures only_tried { λ r. ⌜ found r (λ w. Only-tried (now (tried .entry)) w) ⌝ }
     ensures highest_struck { λ r. ⌜ found r (λ _. Highest-struck (now (movements .entry)) (now (amounts .entry))) ⌝ }
     ensures lowest_rejoins { λ r. ⌜ found r (λ _. Lowest-rejoins (now (movements .entry)) (now (amounts .entry)) (now (tried .entry))) ⌝ }
     ensures balanced { λ r. ⌜ found r (λ w. Balanced (now (movements .entry)) w) ⌝ }

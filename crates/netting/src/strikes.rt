@@ -7,9 +7,9 @@ ghost use lib.Signed.{ltZ};
 ghost use Rattle.std.specs.Options.{isSome};
 ghost use Rattle.netting.specs.Search.{firstBelow};
 ghost use Rattle.netting.specs.Places.{places, takes as takes-from, brings as brings-to, only-takes};
-ghost use Rattle.netting.specs.Positions.{after-in, Kept};
 ghost use Rattle.netting.specs.Strikes.{chosen as chosen-for, struck-next, strike as strike-of};
-ghost use Rattle.netting.specs.Limits.{Roomy, Fitting, Small, Bounded, fits};
+ghost use Rattle.netting.specs.Limits.{Fitting, Small, Bounded, fits};
+ghost use Rattle.netting.specs.Tables.{after-in, Kept, Roomy};
 use crate::leg::Leg;
 use crate::net::MOVEMENTS;
 use crate::net::Net;
@@ -17,7 +17,7 @@ use crate::places::PLACES;
 use movement::Movement;
 
 // What a movement takes from a place.
-pub fn takes(m: &Movement, place: usize) -> u64
+fn takes(m: &Movement, place: usize) -> u64
     requires { ⌜ fits (now m) ≡ true ⌝ }
     ensures { λ r. ⌜ r ≡ takes-from (now (m .entry)) place ⌝ }
 {
@@ -25,7 +25,7 @@ pub fn takes(m: &Movement, place: usize) -> u64
 }
 
 // What a movement brings to a place.
-pub fn brings(m: &Movement, place: usize) -> u64
+fn brings(m: &Movement, place: usize) -> u64
     requires { ⌜ fits (now m) ≡ true ⌝ }
     ensures { λ r. ⌜ r ≡ brings-to (now (m .entry)) place ⌝ }
 {

@@ -1,9 +1,11 @@
-use mathlib.Core.Path.{_≡_}
+use mathlib.Core.Path.{_≡_, sym, subst}
 use Prim.Native.Nat.{_≤_}
 use lib.ListN.{length}
 use native.Mathlib.Omega.{arith}
 use borrow.Author.Needs.{needs}
 use Rattle.netting.specs.Rejoins.{settling}
+use Rattle.netting.specs.Theorems.{Only-tried}
+use Rattle.netting.proofs.Tried.{settling-only-tried}
 use Rattle.netting.proofs.Laws.{some-taker, step-1-ends, settling-none-short, settling-none-covered}
 use Rattle.netting.proofs.Rising.{highest-struck, lowest-rejoins}
 use Rattle.netting.proofs.Balance.{balanced}
@@ -29,6 +31,7 @@ returns c =
       strikes-end = step-1-ends movements amounts fitting;
       none-short = settling-none-short movements amounts fitting tried _ long is;
       none-covered = settling-none-covered movements amounts fitting tried _ long is;
+      only-tried = subst (Only-tried tried) (sym is) (settling-only-tried movements amounts tried);
       highest-struck = highest-struck movements amounts (c .pre);
       lowest-rejoins = lowest-rejoins movements amounts (c .pre) tried;
       balanced = balanced movements (c .rejoin-all .last .self .marks) fitting;

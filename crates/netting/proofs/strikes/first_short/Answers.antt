@@ -4,7 +4,7 @@ use lib.Signed.{ltZ}
 use native.Mathlib.Omega.{arith}
 use Rattle.std.proofs.shelf.Signed.{ints}
 use Rattle.netting.specs.Places.{places}
-use Rattle.netting.specs.Positions.{after-in}
+use Rattle.netting.specs.Tables.{after-in}
 use Rattle.netting.proofs.Search.{first-is, first-none-more}
 use Rattle.netting.proofs.strikes.first_short.Needs as need
 

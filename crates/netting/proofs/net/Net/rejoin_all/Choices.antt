@@ -1,5 +1,5 @@
 use mathlib.Core.Path.{_≡_}
-use Rattle.netting.specs.Positions.{Kept}
+use Rattle.netting.specs.Tables.{Kept}
 use Rattle.netting.specs.Rejoins.{Sound, how-many-struck, after-rejoins}
 use Rattle.netting.proofs.net.Net.rejoin_all.Given as given
 

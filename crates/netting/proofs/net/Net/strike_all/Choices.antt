@@ -1,5 +1,6 @@
 use mathlib.Core.Path.{_≡_}
-use Rattle.netting.specs.Positions.{size, Kept}
+use Rattle.netting.specs.Positions.{size}
+use Rattle.netting.specs.Tables.{Kept}
 use Rattle.netting.specs.Strikes.{after-strikes}
 use Rattle.netting.proofs.net.Net.strike_all.Given as given
 

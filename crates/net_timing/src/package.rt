@@ -45,18 +45,16 @@ fn moving(number: u32, security: u8, currency: u8, seller: Party, buyer: Party) 
 }
 
 // An account from a number.
-fn account(n: usize) -> u8 {
+fn account(n: u16) -> u8 {
     (n % 32) as u8
 }
 
 // Everyone sells to account 31 for euro.
-fn worst_movement(i: usize) -> Movement
-    requires { ⌜ i < 128 ⌝ }
-{
-    let seller = account(i % 31);
+fn worst_movement(i: u8) -> Movement {
+    let seller = i % 31;
     moving(
-        i as u32 + 1,
-        (i % 16) as u8,
+        u32::from(i) + 1,
+        i % 16,
         1,
         party(seller, seller),
         party(31, 31),
@@ -64,15 +62,14 @@ fn worst_movement(i: usize) -> Movement
 }
 
 // Securities, currencies and accounts are mixed.
-fn full_movement(i: usize) -> Movement
-    requires { ⌜ i < 128 ⌝ }
-{
+fn full_movement(i: u8) -> Movement {
+    let n = u16::from(i);
     moving(
-        i as u32 + 1,
-        (i % 16) as u8,
-        (i % 2) as u8,
-        party(account(7 * i), account(3 * i)),
-        party(account(7 * i + 5), account(3 * i + 11)),
+        u32::from(i) + 1,
+        i % 16,
+        i % 2,
+        party(account(7 * n), account(3 * n)),
+        party(account(7 * n + 5), account(3 * n + 11)),
     )
 }
 
@@ -81,7 +78,7 @@ impl Package {
     fn worst() -> Package {
         let mut movements = [worst_movement(0); MOVEMENTS];
         for i in 0..MOVEMENTS {
-            movements[i] = worst_movement(i);
+            movements[i] = worst_movement(i as u8);
         }
         let mut amounts = [PLENTY; PLACES];
         amounts[LAST] = 0;
@@ -92,7 +89,7 @@ impl Package {
     fn full() -> Package {
         let mut movements = [full_movement(0); MOVEMENTS];
         for i in 0..MOVEMENTS {
-            movements[i] = full_movement(i);
+            movements[i] = full_movement(i as u8);
         }
         Package {
             movements,

@@ -65,9 +65,8 @@ impl Leg {
 
 impl Movement {
     fn within_limits(&self) -> bool {
-        let known = |side: &Side| {
-            (side.securities as usize) < ACCOUNTS && (side.cash as usize) < ACCOUNTS
-        };
+        let known =
+            |side: &Side| (side.securities as usize) < ACCOUNTS && (side.cash as usize) < ACCOUNTS;
         (self.security as usize) < SECURITIES
             && (self.currency as usize) < CURRENCIES
             && self.quantity <= MOST_MOVED
@@ -117,6 +116,15 @@ impl Movement {
     }
 }
 
+/// The first place whose sum is below 0. The accounts of one kind are looked at together, since the
+/// sign of all of them or-ed together is found without a branch for each.
+fn first_short(sums: &[i64; PLACES]) -> Option<usize> {
+    let mut kinds = sums.chunks_exact(ACCOUNTS);
+    let kind = kinds.position(|kind| kind.iter().fold(0, |all, sum| all | sum) < 0)?;
+    let first = kind * ACCOUNTS;
+    (first..first + ACCOUNTS).find(|place| sums[*place] < 0)
+}
+
 /// Who settles of the movements that are tried. None where these or the amounts are not within the
 /// limits.
 #[inline(never)]
@@ -127,7 +135,9 @@ fn settling(
 ) -> Option<[bool; MOVEMENTS]> {
     if movements.len() > MOVEMENTS
         || !movements.iter().all(Movement::within_limits)
-        || !movements.windows(2).all(|pair| pair[0].number < pair[1].number)
+        || !movements
+            .windows(2)
+            .all(|pair| pair[0].number < pair[1].number)
         || amounts.iter().any(|amount| *amount > MOST_HELD)
     {
         return None;
@@ -142,7 +152,7 @@ fn settling(
         }
     }
 
-    while let Some(place) = sums.iter().position(|sum| *sum < 0) {
+    while let Some(place) = first_short(&sums) {
         let i = (0..movements.len())
             .rev()
             .find(|&i| package[i] && movements[i].only_takes(place))?;
@@ -150,8 +160,8 @@ fn settling(
         movements[i].leave(&mut sums);
     }
 
-    while let Some(i) = (0..movements.len())
-        .find(|&i| tried[i] && !package[i] && movements[i].covered(&sums))
+    while let Some(i) =
+        (0..movements.len()).find(|&i| tried[i] && !package[i] && movements[i].covered(&sums))
     {
         package[i] = true;
         movements[i].enter(&mut sums);
@@ -205,7 +215,11 @@ fn total((mut movements, mut amounts): Package, turns: u32) -> Option<u64> {
     for turn in 0..turns {
         amounts[IDLE] = PLENTY + turn as u64;
         movements[0].day = (turn % 65_536) as u16;
-        let package = settling(black_box(&movements), &[true; MOVEMENTS], black_box(&amounts))?;
+        let package = settling(
+            black_box(&movements),
+            &[true; MOVEMENTS],
+            black_box(&amounts),
+        )?;
         settled += package.iter().filter(|mark| **mark).count() as u64;
     }
     black_box(movements[0].day);

@@ -8,7 +8,6 @@ use Rattle.std.specs.declared.result.Result.the-variants.{Ok, Err}
 use Rattle.register.specs.Holdings.{Holdings, limit, total}
 use Rattle.register.specs.Answers.{put-answer}
 use Rattle.register.specs.declared.refusal.Refusal.{Refusal}
-use Rattle.fault.specs.declared.fault.Fault.{Fault}
 use Rattle.book.specs.declared.place.Place.{Place}
 use Rattle.fault.specs.Questions.{passes}
 use Rattle.book.specs.Paying.{payment-questions}

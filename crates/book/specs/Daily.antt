@@ -7,8 +7,6 @@ use lib.ListN.{length}
 use Rattle.std.specs.Options.{isSome, valueOr}
 use Rattle.std.specs.declared.option.Option.{Option}
 use Rattle.std.specs.declared.option.Option.the-variants.{Some, None}
-use Rattle.std.specs.declared.result.Result.{Result}
-use Rattle.fault.specs.declared.fault.Fault.{Fault}
 use Rattle.fault.specs.declared.fault.Fault.the-variants.{TradeNumber, UnknownClass, UnknownSecurity, QuantityRange, UnknownCurrency, TradeSum, SettlementDay, BookFull, NotOnBook, NoDuty, AlreadyConsented, CancelTooLate}
 use Rattle.fault.specs.Questions.{Question, ask}
 use Rattle.movement.specs.declared.class.Class.{Class}
@@ -20,7 +18,7 @@ use Rattle.movement.specs.declared.trade.Trade.{Trade}
 use Rattle.movement.specs.Letters.{class-of}
 use Rattle.movement.specs.Agreed.{Agreed}
 use Rattle.movement.specs.Bounds.{from-one-to, most-traded}
-use Rattle.movement.specs.Settings.{terms-questions, terms-after}
+use Rattle.movement.specs.Settings.{terms-after}
 use Rattle.movement.specs.Forming.{side-questions, movement-of}
 use Rattle.movement.specs.Consents.{has-duty, silent, consented, is-afternoon}
 

@@ -1,7 +1,7 @@
 -- The amounts stay lawful.
 use mathlib.Core.Path.{_≡_, refl, sym, _∙_, ap}
 use mathlib.Core.List.{List, [], _∷_}
-use mathlib.Core.Bool.{Bool, true, false, cond, _&&_}
+use mathlib.Core.Bool.{cond, _&&_}
 use Prim.Native.Nat.{ℕ, _+_, _-_, _<_, _≤_}
 use native.Mathlib.Omega.{arith}
 use lib.Dec.{eqb}
@@ -10,7 +10,7 @@ use Rattle.std.proofs.shelf.Signed.{ints}
 use Rattle.std.proofs.shelf.Ways.{tells}
 use Rattle.std.specs.Results.{isOk}
 use Rattle.std.specs.declared.option.Option.the-variants.{None}
-use Rattle.std.specs.declared.result.Result.the-variants.{Ok, Err}
+use Rattle.std.specs.declared.result.Result.the-variants.{Ok}
 use Rattle.register.specs.Holdings.{total}
 use Rattle.fault.specs.Questions.{first-no}
 use Rattle.book.specs.declared.place.Place.{Place}
@@ -23,8 +23,8 @@ use Rattle.history.specs.declared.call.Call.the-variants.{PayIn, PayOut, Terms
 use Rattle.history.specs.declared.call.Answer.{Answer}
 use Rattle.history.specs.Step.{questions, effect}
 use Rattle.history.specs.History.{Event, event}
-use Rattle.history.specs.Statement.{Statement, is-place, booked, read-call, statement}
-use Rattle.history.specs.Law.{LawfulAmounts, paid, paid-by}
+use Rattle.history.specs.Statement.{is-place, booked, read-call, statement}
+use Rattle.history.specs.Law.{LawfulAmounts, paid}
 use Rattle.history.proofs.Booking.{Booked, booked-at}
 
 pub opened-amounts : (o : Opening) → LawfulAmounts o [] (opened o)

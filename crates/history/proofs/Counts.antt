@@ -1,27 +1,23 @@
 -- Every trade is counted once: on the book, or cancelled; and noted as it is on the book.
 use mathlib.Core.Path.{_≡_, refl, sym, _∙_, ap}
 use mathlib.Core.List.{List, [], _∷_, _++_}
-use mathlib.Core.Bool.{Bool, true, false, cond, _&&_}
+use mathlib.Core.Bool.{cond}
 use mathlib.Core.Logic.{⊎-elim}
 use Prim.Native.Nat.{ℕ, _+_, _<_, _≤_}
 use native.Mathlib.Omega.{arith}
-use lib.Dec.{eqb, leb, ltb}
-use Rattle.std.proofs.shelf.Tests.{cases-eq, cases-bool, eq-eqb, ne-eqb, eqb-true, eqb-false, and-parts, ltb-true}
-use Rattle.std.specs.Options.{isSome, mapped}
+use lib.Dec.{eqb}
+use Rattle.std.proofs.shelf.Tests.{cases-eq, eq-eqb, ne-eqb}
+use Rattle.std.specs.Options.{mapped}
 use Rattle.std.specs.Results.{isOk}
 use Rattle.std.specs.declared.option.Option.{Option}
 use Rattle.std.specs.declared.option.Option.the-variants.{Some, None}
-use Rattle.std.specs.declared.result.Result.the-variants.{Ok, Err}
-use Rattle.fault.specs.Questions.{first-no}
-use Rattle.fault.proofs.Asking.{all-hold}
+use Rattle.std.specs.declared.result.Result.the-variants.{Ok}
 use Rattle.movement.specs.declared.movement.Movement.{Movement}
 use Rattle.movement.specs.declared.trade.Trade.{Trade as Report}
 use Rattle.movement.specs.Forming.{movement-of}
 use Rattle.movement.specs.Consents.{consented}
-use Rattle.movement.specs.Settings.{terms-after}
-use Rattle.book.specs.Daily.{Daily, on-book, without, changed-at, class-known, traded, entered, trade-questions, consented-to, cancelled, cancel-questions, agreed-to}
-use Rattle.history.specs.declared.call.Call.{Call}
-use Rattle.history.specs.declared.call.Call.the-variants.{PayIn, PayOut, Terms, Trade, Consent, Cancel, Tell}
+use Rattle.book.specs.Daily.{Daily, on-book, without, changed-at, class-known, traded, entered, consented-to, cancelled}
+use Rattle.history.specs.declared.call.Call.the-variants.{Trade, Consent, Cancel}
 use Rattle.history.specs.declared.call.Answer.{Answer}
 use Rattle.history.specs.History.{Event, event}
 use Rattle.history.specs.Statement.{Statement, read-call}

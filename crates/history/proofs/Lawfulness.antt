@@ -2,13 +2,12 @@
 use mathlib.Core.Path.{_≡_, refl, sym, _∙_, ap}
 use mathlib.Core.List.{List, [], _∷_}
 use mathlib.Core.Bool.{Bool, true, false, cond}
-use Prim.Native.Nat.{ℕ, _+_, _<_, _≤_}
+use Prim.Native.Nat.{ℕ}
 use native.Mathlib.Omega.{arith}
 use Rattle.std.proofs.shelf.Tests.{cond-false, false≢true}
 use Rattle.std.proofs.shelf.Ways.{tells}
 use Rattle.std.specs.Options.{isSome}
 use Rattle.std.specs.Results.{isOk}
-use Rattle.std.specs.shelf.Lists.{All}
 use Rattle.std.specs.declared.option.Option.{Option}
 use Rattle.std.specs.declared.option.Option.the-variants.{Some, None}
 use Rattle.std.specs.declared.result.Result.{Result}
@@ -29,7 +28,7 @@ use Rattle.history.specs.declared.call.Answer.the-variants.{Done}
 use Rattle.history.specs.Step.{questions, answer, after, effect, Stepped}
 use Rattle.history.specs.History.{Event, event, Leads, opens, goes}
 use Rattle.history.specs.Statement.{Statement, statement, read-call}
-use Rattle.history.specs.Law.{Lawful, LawfulAnswers, LawfulTrades, AnsweredByCall, Extends, Performed, over, traded-by, cancelled-by, got-50, on-the-book}
+use Rattle.history.specs.Law.{Lawful, LawfulAnswers, LawfulTrades, Extends, Performed, traded-by, cancelled-by, got-50, on-the-book}
 use Rattle.history.proofs.Numbers.{count, counted-once}
 use Rattle.history.proofs.Answering.{refused-by-call, refused-by-opening, accepted-asked}
 use Rattle.history.proofs.Amounts.{opened-amounts, nothing-booked, accepted-amounts}

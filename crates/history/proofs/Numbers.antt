@@ -5,10 +5,8 @@ use mathlib.Core.List.{List, [], _∷_, _++_}
 use Prim.Native.Nat.{ℕ, _+_, _≤_}
 use native.Mathlib.Omega.{arith}
 use lib.Dec.{eqb}
-use Rattle.std.proofs.shelf.Tests.{eqb-true, eq-eqb, ne-eqb}
-use Rattle.std.proofs.shelf.Ways.{tells}
+use Rattle.std.proofs.shelf.Tests.{eqb-true, ne-eqb}
 use Rattle.std.specs.Options.{isSome, mapped}
-use Rattle.std.specs.declared.option.Option.{Option}
 use Rattle.std.specs.declared.option.Option.the-variants.{Some, None}
 use Rattle.movement.specs.declared.movement.Movement.{Movement}
 use Rattle.book.specs.Daily.{on-book, without, changed-at}

@@ -1,7 +1,7 @@
 -- One call by the rules: what is asked, what is answered, and the state after it.
 use mathlib.Core.Path.{_≡_}
 use mathlib.Core.List.{List}
-use mathlib.Core.Bool.{Bool, cond}
+use mathlib.Core.Bool.{cond}
 use Rattle.std.specs.Results.{isOk}
 use Rattle.std.specs.declared.result.Result.{Result}
 use Rattle.fault.specs.declared.fault.Fault.{Fault}

@@ -1,5 +1,4 @@
 // One call, by name.
-ghost use mathlib.Core.Path.{_≡_};
 ghost use Rattle.history.specs.Step.{Stepped};
 ghost use Rattle.history.specs.Law.{Performed};
 use crate::call::Answer;

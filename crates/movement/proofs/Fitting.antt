@@ -1,21 +1,20 @@
 -- Terms and movements stay within their bounds.
 use mathlib.Core.Path.{_≡_, refl, sym, _∙_, ap}
-use mathlib.Core.Bool.{Bool, true, false, cond, _&&_, _||_}
+use mathlib.Core.Bool.{true, false, cond, _&&_, _||_}
 use mathlib.Core.List.{List, [], _∷_, _++_}
 use mathlib.Core.Logic.{⊎-elim}
-use Prim.Native.Nat.{ℕ, zero, suc, _<_, _≤_}
+use Prim.Native.Nat.{ℕ, zero, suc, _<_}
 use native.Mathlib.Omega.{arith}
-use lib.Dec.{eqb, leb, ltb}
+use lib.Dec.{eqb}
 use lib.ListN.{length, getD, set}
 use Rattle.std.proofs.shelf.Tests.{and-parts, and-from, cases-bool, cond-true, cond-false, cond-both, false≢true}
-use Rattle.std.proofs.shelf.Ways.{tells}
 use Rattle.std.specs.Holes.{removed}
 use Rattle.std.specs.Options.{isSome, orOther}
 use Rattle.std.specs.Results.{isOk}
 use Rattle.std.specs.declared.option.Option.{Option}
 use Rattle.std.specs.declared.option.Option.the-variants.{Some, None}
 use Rattle.std.specs.declared.result.Result.{Result}
-use Rattle.std.specs.declared.result.Result.the-variants.{Ok, Err}
+use Rattle.std.specs.declared.result.Result.the-variants.{Ok}
 use Rattle.fault.specs.declared.fault.Fault.{Fault}
 use Rattle.register.specs.Answers.{Changed}
 use Rattle.fault.specs.Questions.{first-no, passes, unless}
@@ -23,10 +22,9 @@ use Rattle.fault.proofs.Asking.{all-hold}
 use Rattle.movement.specs.declared.category.Category.{Category}
 use Rattle.movement.specs.declared.category.Category.the-variants.{Main}
 use Rattle.movement.specs.declared.movement.Movement.{Movement}
-use Rattle.movement.specs.declared.party.Party.{Party}
 use Rattle.movement.specs.declared.terms.Setting.{Setting}
 use Rattle.movement.specs.declared.trade.TradeSide.{TradeSide}
-use Rattle.movement.specs.Agreed.{Agreed, lookup, member-known, none-agreed, with-terms}
+use Rattle.movement.specs.Agreed.{Agreed, lookup, member-known, with-terms}
 use Rattle.movement.specs.Letters.{category-of, row}
 use Rattle.movement.specs.Clearing.{blank, digits, one-off}
 use Rattle.movement.specs.Forming.{lookup-known, standard-pair, side-questions, formed, formed-known, party-of}
@@ -38,9 +36,6 @@ some-injective {A} {x} {y} e = cc
 
 none-is-not-some : {A : Type 0} {x : A} → _≡_ {A = Option A} None (Some x) → ⊥
 none-is-not-some {A} {x} e = let z : _≡_ {A = ℕ} 0 1 = cc in omega arith
-
-pub none-fit : (accounts : ℕ) → TermsFit accounts none-agreed
-none-fit accounts m c = refl
 
 -- one category set to participants
 with-fit : (accounts : ℕ) (t : Agreed) (m : ℕ) (c : Category) (pair : ℕ × ℕ) → TermsFit accounts t → pair-fits accounts pair ≡ true → TermsFit accounts (with-terms t m c pair)

@@ -1,13 +1,11 @@
 -- The questions of one side of a trade, once its category and its terms are known.
-use mathlib.Core.Path.{_≡_, refl, sym, _∙_, ap}
-use mathlib.Core.Bool.{true, false, cond}
-use mathlib.Core.List.{List, _∷_}
+use mathlib.Core.Path.{_≡_, _∙_, ap}
+use mathlib.Core.List.{_∷_}
 use Prim.Native.Nat.{ℕ}
 use Rattle.std.specs.Options.{isSome}
-use Rattle.std.specs.declared.option.Option.{Option}
-use Rattle.std.specs.declared.option.Option.the-variants.{Some, None}
+use Rattle.std.specs.declared.option.Option.the-variants.{Some}
 use Rattle.fault.specs.declared.fault.Fault.the-variants.{UnknownCategory, NoTerms}
-use Rattle.fault.specs.Questions.{Question, ask, asked}
+use Rattle.fault.specs.Questions.{ask, asked}
 use Rattle.movement.specs.declared.category.Category.{Category}
 use Rattle.movement.specs.declared.trade.TradeSide.{TradeSide}
 use Rattle.movement.specs.Letters.{category-of}

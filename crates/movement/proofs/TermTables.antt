@@ -1,9 +1,9 @@
 -- What the table of terms says when it is new, and after one of its elements is written.
 use mathlib.Core.Path.{_≡_, refl, sym, _∙_, ap, fun-ext}
 use mathlib.Core.Bool.{Bool, true, false, cond, _&&_}
-use mathlib.Core.List.{List, [], _∷_}
+use mathlib.Core.List.{List}
 use mathlib.Core.Logic.{⊎-elim}
-use Prim.Native.Nat.{ℕ, zero, suc, _+_, _-_, _<_, _≤_}
+use Prim.Native.Nat.{ℕ, zero, suc, _-_, _<_, _≤_}
 use native.Mathlib.Omega.{arith}
 use lib.Dec.{eqb}
 use lib.ListN.{length, getD, set, replicate}
@@ -16,7 +16,7 @@ use Rattle.movement.specs.declared.category.Category.{Category}
 use Rattle.movement.specs.declared.terms.Terms.{Terms}
 use Rattle.movement.specs.declared.terms.MemberRow.{MemberRow}
 use Rattle.movement.specs.Letters.{row}
-use Rattle.movement.specs.Agreed.{Agreed, member-known, none-agreed, with-terms}
+use Rattle.movement.specs.Agreed.{member-known, none-agreed, with-terms}
 use Rattle.movement.specs.Terms.{agreed, empty-row, pair-in}
 
 no-pair : (n i : ℕ) → getD {A = Option (ℕ × ℕ)} (replicate n None) i None ≡ None

@@ -1,6 +1,6 @@
 -- What the table of terms says.
 use mathlib.Core.Bool.{cond}
-use mathlib.Core.List.{List, []}
+use mathlib.Core.List.{[]}
 use Prim.Native.Nat.{ℕ, _-_}
 use lib.ListN.{getD}
 use Rattle.std.specs.declared.option.Option.{Option}

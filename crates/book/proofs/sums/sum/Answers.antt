@@ -1,7 +1,5 @@
-use Prim.Native.Nat.{_≤_}
 use native.Mathlib.Omega.{arith}
 use borrow.Author.Needs.{needs}
-use Rattle.register.specs.Holdings.{sumBelow}
 use Rattle.register.proofs.Sums.{sum-bound, sum-more}
 use Rattle.book.proofs.sums.sum.Needs as need
 

@@ -1,6 +1,5 @@
-use mathlib.Core.Path.{_≡_, sym, _∙_, ap}
+use mathlib.Core.Path.{sym, _∙_}
 use Rattle.std.proofs.shelf.Results.{err-from-errBy}
-use Rattle.std.specs.declared.result.Result.the-variants.{Ok}
 use Rattle.fault.proofs.Asking.{asked-stops, asked-goes, asked-fault, asked-value}
 use Rattle.movement.specs.Forming.{movement-of, party-of, side-questions}
 use Rattle.movement.specs.Terms.{agreed}

@@ -1,10 +1,9 @@
 use mathlib.Core.Path.{sym, _∙_, ap}
 use Rattle.std.proofs.shelf.Results.{err-from-errBy}
 use Rattle.std.specs.declared.result.Result.the-variants.{Ok}
-use Rattle.fault.specs.Questions.{asked}
 use Rattle.fault.proofs.Asking.{asked-fault, asked-value}
 use Rattle.movement.specs.Clearing.{clearing-questions, one-off}
-use Rattle.movement.specs.Forming.{formed, party-of, side-questions}
+use Rattle.movement.specs.Forming.{formed, party-of}
 use Rattle.movement.specs.Terms.{agreed}
 use Rattle.movement.proofs.Sides.{clearing-left, party-formed}
 use Rattle.movement.proofs.forming.party.Needs as need

@@ -20,15 +20,17 @@ pub fn table(heap: Global, kinds: u8, accounts: u8, amount: i64) -> Result<Table
 }
 
 // 32 accounts, 4 securities, everything 0. Member 1 has the custodians 1 and 2, member 2 has 3 and 4.
-pub fn opened(heap: Global) -> Result<Depository, Fail> {
+pub fn opened_on(heap: Global, first_day: u32) -> Result<Depository, Fail> {
     let securities = table(heap, 4, 32, 0)?;
     let cash = table(heap, 2, 32, 0)?;
-    let mut book = Book::open(heap, securities, cash, 0)?;
-    compare(
-        &mut book,
-        &[(terms(1, b'-', 1, 2), 0), (terms(2, b'-', 3, 4), 0)],
-    )?;
+    let mut book = Book::open(heap, securities, cash, first_day)?;
+    expect(&mut book, terms(1, b'-', 1, 2), 0)?;
+    expect(&mut book, terms(2, b'-', 3, 4), 0)?;
     Ok(book)
+}
+
+pub fn opened(heap: Global) -> Result<Depository, Fail> {
+    opened_on(heap, 0)
 }
 
 // Makes a call, and compares the number of its answer, 0 where it is accepted.

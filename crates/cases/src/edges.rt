@@ -1,7 +1,9 @@
 // The first and the last of what is taken, and what lies beyond.
+use crate::building::Depository;
 use crate::building::compare;
 use crate::building::expect;
 use crate::building::opened;
+use crate::building::opened_on;
 use crate::calls::money;
 use crate::calls::numbered;
 use crate::calls::shares;
@@ -10,9 +12,19 @@ use crate::changes::Change;
 use crate::changes::Field;
 use crate::changes::changed;
 use history::Call;
+use register::TableRegister;
 use std::test::*;
 
 const MOST: u64 = 1_000_000_000_000;
+
+// Trades 1, 2 and on, each with a change, and the number of its answer.
+fn compare_changed(book: &mut Depository, cases: &[(Change, u8)]) -> Result<(), Fail> {
+    for (number, (change, expected)) in (1..=99).zip(cases.iter()) {
+        let call = Call::Trade(changed(numbered(number), *change));
+        expect(book, call, *expected)?;
+    }
+    Ok(())
+}
 
 #[test]
 fn a_trade_is_taken_within_its_edges(rt: LibcRuntime) -> Result<(), Fail> {
@@ -35,12 +47,19 @@ fn a_trade_is_taken_within_its_edges(rt: LibcRuntime) -> Result<(), Fail> {
         (Change::Number(u32::MAX), 0),
         (Change::Number(u32::MAX), 20),
     ];
-    let mut book = opened(rt.alloc())?;
-    for (number, (change, expected)) in (1..=17).zip(cases.iter()) {
-        let call = Call::Trade(changed(numbered(number), *change));
-        expect(&mut book, call, *expected)?;
-    }
-    Ok(())
+    compare_changed(&mut opened(rt.alloc())?, &cases)
+}
+
+#[test]
+fn a_trade_settles_within_30_days_of_the_latest_opening(rt: LibcRuntime) -> Result<(), Fail> {
+    let cases = [
+        (Change::Day(59_999), 26),
+        (Change::Day(60_000), 0),
+        (Change::Day(60_030), 0),
+        (Change::Day(60_031), 26),
+        (Change::Day(u16::MAX), 26),
+    ];
+    compare_changed(&mut opened_on(rt.alloc(), 60_000)?, &cases)
 }
 
 #[test]

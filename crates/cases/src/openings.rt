@@ -45,7 +45,7 @@ fn an_opening_gets_its_first_no(rt: LibcRuntime) -> Result<(), Fail> {
     Ok(())
 }
 
-// One of each kind; a book that opened well would refuse the last two by 50.
+// One call of each kind, to be answered by a number.
 fn one_of_each(number: u8) -> [(Call, u8); 7] {
     [
         (Call::PayIn(shares(0, 1), 1), number),

@@ -14,7 +14,7 @@ use book::Place;
 use history::Call;
 use std::test::*;
 
-// A change for each question of a trade, in the order in which they are asked. Members 3 and 4 have no terms; a clearing field that fails one question fails those after it too.
+// For each question of a trade, in the order in which they are asked, a change that it refuses. Members 3 and 4 have no terms; each clearing field fails the questions after its own too.
 const REFUSED: [(Change, u8); 17] = [
     (Change::Number(0), 20),
     (Change::Class(b'X'), 21),
@@ -82,6 +82,10 @@ fn other_calls_that_fail_two_questions_get_the_first(rt: LibcRuntime) -> Result<
         (Call::Tell(shares(4, 32)), 11),
         (terms(0, b'X', 1, 1), 40),
         (terms(1, b'X', 0, 1), 41),
+        (trade(1), 0),
+        (Call::Consent(2, 9), 50),
+        (Call::Consent(1, 9), 51),
+        (Call::Cancel(2), 50),
     ];
     compare(&mut book, &cases)
 }

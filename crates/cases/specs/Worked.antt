@@ -139,7 +139,7 @@ fullness =
     ∷ worked (agreed ++ (trades-to 128 ++ (Cancel 1 ∷ []))) (trade-numbered 129) (Ok Done)
     ∷ []
 
--- the terms that a trade takes: of main where its category was never set, and those of the day that it is formed
+-- the terms that a trade takes: as they stand when it is formed, of main where its category was never set
 abbrev pub taken-terms : List Case
 taken-terms =
     worked [] (trade-numbered 7) (Err 27)

@@ -1,4 +1,6 @@
 // The book: two registers, a day, and the calls on them.
+#![tactic(auto)]
+
 pub mod book;
 pub mod daybook;
 mod opening;

@@ -1,4 +1,6 @@
 // Worked cases of the rules, and tests of many cases.
+#![tactic(auto)]
+
 ghost use Rattle.std.specs.Prelude.{◌≡◌, length};
 ghost use Rattle.cases.specs.Worked.{WorkedCases, table};
 

@@ -1,4 +1,6 @@
 // One day at a small depository, told step by step.
+#![tactic(auto)]
+
 mod statement;
 
 use crate::statement::Statement;

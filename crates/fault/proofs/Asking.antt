@@ -1,6 +1,6 @@
 -- What an answer tells of the questions that were asked.
 use Rattle.std.proofs.Common.{◌≡◌, ℕ, true, false, cond, List, [], ◌∷◌, ◌++◌, is_ok, Some, None, Ok, Err, Option, Result, sym, refl, ap, ◌∙◌, arith}
-use Rattle.std.specs.List.{AllByRecursion as All}
+use Rattle.std.specs.List.{AllByRecursion}
 use Rattle.register.specs.Answers.{Changed}
 use Rattle.fault.specs.declared.fault.Fault.{Fault}
 use Rattle.fault.specs.Questions.{Question, first_no, unless, asked}
@@ -21,10 +21,10 @@ unless_none None r v e = (refl, e)
 unless_none (Some g) r v e = absurd (ok_is_no_error e refl)
 
 -- no question was answered no
-pub all_hold : (qs : List Question) → first_no qs ≡ None → All (λ q. q.holds ≡ true) qs
+pub all_hold : (qs : List Question) → first_no qs ≡ None → AllByRecursion (λ q. q.holds ≡ true) qs
 all_hold [] e = tt
 all_hold (q ∷ qs) e =
-    elim q.holds as (λ b. cond b (first_no qs) (Some q.fault) ≡ None → (b ≡ true) × All (λ r. r.holds ≡ true) qs) [
+    elim q.holds as (λ b. cond b (first_no qs) (Some q.fault) ≡ None → (b ≡ true) × AllByRecursion (λ r. r.holds ≡ true) qs) [
       | true ↦ λ (d : first_no qs ≡ None). (refl, all_hold qs d)
       | false ↦ λ (d : Some q.fault ≡ None). absurd (some_is_not_none refl d)
     ] e

@@ -1,4 +1,6 @@
 // Faults: every reason for which a call is refused, with its number.
+#![tactic(auto)]
+
 pub mod fault;
 mod reason;
 

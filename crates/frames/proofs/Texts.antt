@@ -1,6 +1,6 @@
 -- What is written is read back.
 use Rattle.std.proofs.Common.{◌≡◌, ℕ, ◌+◌, ◌*◌, ◌/◌, ◌%◌, ◌<◌, List, [], ◌∷◌, ◌++◌, length, get_or, take, Some, sym, refl, arith}
-use Rattle.std.specs.List.{AllByRecursion as All}
+use Rattle.std.specs.List.{AllByRecursion}
 use Rattle.std.proofs.lemmas.List.{flat_map_more, take_more}
 use Rattle.std.proofs.lemmas.Bool.Decides.{nat_tests}
 use Rattle.frames.specs.Hex.{RoundTrip, digit_value, hex_of, hex_text, letter_of, pairs}
@@ -13,7 +13,7 @@ length_text : (bytes : List ℕ) → length (hex_text bytes) ≡ 2 * length byte
 length_text [] = refl
 length_text (b ∷ bytes) = let rest = length_text bytes in omega arith
 
-pairs_text : (bytes : List ℕ) → All (λ b. b < 256) bytes → pairs (hex_text bytes) ≡ Some bytes
+pairs_text : (bytes : List ℕ) → AllByRecursion (λ b. b < 256) bytes → pairs (hex_text bytes) ≡ Some bytes
 pairs_text [] h = refl
 pairs_text (b ∷ bytes) h =
     let high : b / 16 < 16 = omega (arith, h.0) in

@@ -1,6 +1,6 @@
 -- Hexadecimal digits: what each character stands for, and what a line of them says.
 use Rattle.std.specs.Prelude.{◌≡◌, ℕ, ◌+◌, ◌-◌, ◌*◌, ◌/◌, ◌%◌, ◌<◌, ◌≤◌, Bool, cond, ◌&&◌, List, [], ◌∷◌, length, Some, None, Option, ◌==◌, nat_le, nat_lt}
-use Rattle.std.specs.List.{flat_map, AllByRecursion as All}
+use Rattle.std.specs.List.{flat_map, AllByRecursion}
 
 -- n is from first to last
 abbrev pub within : ℕ → ℕ → ℕ → Bool
@@ -58,5 +58,5 @@ hex_text bytes = flat_map hex_of bytes
 -- the law: what is written of 1 to 38 bytes is a line that says them
 abbrev pub RoundTrip : Type 0
 RoundTrip =
-    (bytes : List ℕ) → All (λ b. b < 256) bytes → 1 ≤ length bytes → length bytes ≤ 38
+    (bytes : List ℕ) → AllByRecursion (λ b. b < 256) bytes → 1 ≤ length bytes → length bytes ≤ 38
     → line_bytes (hex_text bytes) ≡ Some bytes

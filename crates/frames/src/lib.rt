@@ -1,4 +1,6 @@
 // Lines of hexadecimal digits, and the bytes that they say.
+#![tactic(auto)]
+
 mod bytes;
 mod decoding;
 mod frame;

@@ -1,6 +1,6 @@
 -- The law of every history, in the words of accounts, calls and answers.
 use Rattle.std.specs.Prelude.{◌≡◌, ℕ, ◌+◌, ◌<◌, ◌≤◌, Bool, true, false, cond, ◌&&◌, ◌||◌, List, [], ◌∷◌, length, ℤ, pos, ◌+ℤ◌, neg_ℤ, ◌≤ℤ◌, is_ok, Some, None, Ok, Err, Result, ◌==◌, nat_lt}
-use Rattle.std.specs.List.{AllByRecursion as All}
+use Rattle.std.specs.List.{AllByRecursion}
 use Rattle.register.specs.Holdings.{total}
 use Rattle.fault.specs.declared.fault.Fault.{Fault}
 use Rattle.fault.specs.Numbers.{fault_number}
@@ -90,9 +90,9 @@ pub record LawfulAnswers (o : Opening) (h : List Event) (s : State) : Type 0 whe
   -- a failed opening stays failed
   pub for_good : s.failed ≡ failed_question o
   -- after a passed opening no call is refused by a number of the opening's or of a register's
-  pub passed : failed_question o ≡ None → All AnsweredByCall h
+  pub passed : failed_question o ≡ None → AllByRecursion AnsweredByCall h
   -- after a failed one every call is refused by its number
-  pub refused : (f : Fault) → failed_question o ≡ Some f → All (λ e. e.answer ≡ Err f) h
+  pub refused : (f : Fault) → failed_question o ≡ Some f → AllByRecursion (λ e. e.answer ≡ Err f) h
 
 -- the trades
 pub record LawfulTrades (o : Opening) (h : List Event) (s : State) : Type 0 where

@@ -1,4 +1,6 @@
 // Calls by name, and the law that every run of calls keeps.
+#![tactic(auto)]
+
 pub mod call;
 mod dispatch;
 mod runs;

@@ -48,7 +48,7 @@ module _ (rows : List MemberRow) (m : ℕ) (c : Category) (p : ℕ × ℕ) (afte
   bounds : (1 ≤ m) × (m ≤ 16)
   bounds = (grind (arith, nat_tests), grind (arith, nat_tests))
 
-  -- the test of with-terms at the member itself
+  -- the test of with_terms at the member itself
   at_member : (n : ℕ) (d : Category) (o : Option (ℕ × ℕ)) → eqb n m ≡ true → cond (eqb n m && eqb (row d) (row c)) (Some p) o ≡ cond (eqb (row d) (row c)) (Some p) o
   at_member n d o e = ap (λ b. cond (b && eqb (row d) (row c)) (Some p) o) e
 

@@ -1,4 +1,6 @@
 // Movements: what an exchange trade becomes on the book until it settles, ends or is cancelled.
+#![tactic(auto)]
+
 mod agreements;
 pub mod category;
 pub mod class;

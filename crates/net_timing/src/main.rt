@@ -1,5 +1,7 @@
 // Takes a case and a number of turns, settles the case's package so many times, and tells how many movements settled
 // over all turns. It is what bench/netting takes the time of.
+#![tactic(auto)]
+
 mod package;
 
 use crate::package::Package;
@@ -35,14 +37,14 @@ fn run(rt: &HostRuntime) -> anyhow::Result<()> {
     let mut words = env::args(rt)?;
     let _ = words.next();
     let Some(case) = words.next() else {
-        return Err(USAGE.into());
+        return Err(anyhow!("{USAGE}"));
     };
     let Some(turns) = words.next() else {
-        return Err(USAGE.into());
+        return Err(anyhow!("{USAGE}"));
     };
     let turns = turns.as_str().parse::<u32>()?;
     let Some(package) = Package::of(case.as_str()) else {
-        return Err(USAGE.into());
+        return Err(anyhow!("{USAGE}"));
     };
     let Some(settled) = total(package, turns) else {
         return Err(anyhow!("the package is not within the limits"));

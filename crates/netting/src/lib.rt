@@ -1,4 +1,6 @@
 // Netting: which movements of a package settle.
+#![tactic(auto)]
+
 mod cases;
 mod leg;
 mod limits;

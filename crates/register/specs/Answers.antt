@@ -1,5 +1,5 @@
 -- When put, take and transfer refuse, and what they leave.
-use Rattle.std.specs.Prelude.{◌≡◌, ℕ, ◌+◌, ◌-◌, Bool, cond, not, ◌&&◌, ◌||◌, is_ok, Ok, Err, Result, ◌==◌, nat_le, nat_lt}
+use Rattle.std.specs.Prelude.{◌≡◌, ℕ, ◌+◌, Bool, cond, not, ◌&&◌, ◌||◌, is_ok, Ok, Err, Result, ◌==◌, nat_le, nat_lt}
 use Rattle.register.specs.Holdings.{Holdings, limit, raised, lowered, moved}
 use Rattle.register.specs.declared.refusal.Refusal.{Refusal}
 use Rattle.register.specs.declared.refusal.Refusal.TheVariants.{UnknownKind, UnknownAccount, HoldsLess, OverLimit}

@@ -1,4 +1,6 @@
 // Registers: how many pieces or hundredths of each kind stand on each account.
+#![tactic(auto)]
+
 pub mod columns;
 pub mod joined;
 mod questions;
@@ -52,7 +54,7 @@ mod tests {
         assert_eq!(rt; answers, [0, 94, 93]);
         assert_eq!(rt;
             table.into_rows().as_slice(),
-            &[3, 1_000_000_000_000_005, 7, 8, 9]
+            [3, 1_000_000_000_000_005, 7, 8, 9].as_slice()
         );
         Ok(())
     }
@@ -84,7 +86,7 @@ mod tests {
         assert_eq!(rt; answered, [0, 0]);
         assert_eq!(rt;
             table.into_rows().as_slice(),
-            &[3, 1_000_000_000_000_000, 2]
+            [3, 1_000_000_000_000_000, 2].as_slice()
         );
         Ok(())
     }
@@ -108,7 +110,7 @@ mod tests {
             columns(LIMIT, 1),
             columns(6, 0),
         ];
-        assert_eq!(rt; turnover.into_rows().as_slice(), &left);
+        assert_eq!(rt; turnover.into_rows().as_slice(), left.as_slice());
         Ok(())
     }
 

@@ -1,4 +1,6 @@
 // Reads frames from standard input, one a line, and answers each with a line.
+#![tactic(auto)]
+
 mod opening;
 
 use crate::opening::open;

@@ -5,17 +5,17 @@ use Rattle.book.specs.Paying.{payment_questions, sum_stays}
 use Rattle.book.proofs.Payments.{put_passes, not_both}
 use Rattle.book.proofs.paying.deposit.Goals as goal
 
-pub returns-in-err-payable : goal.returns-in-err-payable
-returns-in-err-payable g c =
+pub returns-in_err-payable : goal.returns-in_err-payable
+returns-in_err-payable g c =
     let h = g.R.Register.shows c.args.register.now in
-    let p = err_from_is_err_and c.from-residual.result c.from-residual.ensures.1 in
-    refused c.from-residual.result (rw p.2 at p.1)
+    let p = err_from_is_err_and c.from_residual.result c.from_residual.ensures.1 in
+    refused c.from_residual.result (rw p.2 at p.1)
     (asked_stops (payment_questions h c.args.place c.args.amount) (sum_stays h c.args.place c.args.amount ∷ []) tt tt
-    (sym c.in-err-payable.ensures))
+    (sym c.in_err-payable.ensures))
 
-pub returns-in-err-put : goal.returns-in-err-put
-returns-in-err-put g c =
+pub returns-in_err-put : goal.returns-in_err-put
+returns-in_err-put g c =
     absurd
-    (not_both c.in-err-put.ensures.answered
-    (put_passes (g.R.Register.shows c.args.register.now) c.args.place c.args.amount (sym c.in-ok-payable.ensures)
+    (not_both c.in_err-put.ensures.answered
+    (put_passes (g.R.Register.shows c.args.register.now) c.args.place c.args.amount (sym c.in_ok-payable.ensures)
     (omega arith)))

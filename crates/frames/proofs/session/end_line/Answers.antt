@@ -4,8 +4,8 @@ use Rattle.frames.proofs.Feeding.{ended, kept_none, kept_some, last_is}
 use Rattle.frames.proofs.Streams.{cut_joined}
 use Rattle.frames.proofs.session.end_line.Goals as goal
 
-pub returns-then-is-empty : goal.returns-then-is-empty
-returns-then-is-empty g c =
+pub returns-then-is_empty : goal.returns-then-is_empty
+returns-then-is_empty g c =
     record {
       answers = λ p keeps. ended (p ++ c.args.part.now) _ _ (rw (kept_none c.args.pending.now p keeps (search rules))) c.respond.ensures;
       clears = search (rules, nil_from_length);

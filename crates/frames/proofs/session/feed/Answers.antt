@@ -7,14 +7,14 @@ use Rattle.frames.proofs.session.feed.Goals as goal
 pub loop-n-init : goal.loop-n-init
 loop-n-init g c = (search rules, λ p keeps. begins p _ _ _ _ keeps)
 
-pub returns-in-err-end-line : goal.returns-in-err-end-line
-returns-in-err-end-line g c =
-    let err = err_from_is_err_and c.from-residual.result c.from-residual.ensures.1 in
+pub returns-in_err-end_line : goal.returns-in_err-end_line
+returns-in_err-end_line g c =
+    let err = err_from_is_err_and c.from_residual.result c.from_residual.ensures.1 in
     rw err.1
     record {
       feeds = λ p keeps.
           let w = c.loop-n.invariant.1 p keeps in
-          stops c.in-Some.n w c.in-Some.ensures (c.in-err-end-line.ensures.answers w.begun w.keeps);
+          stops c.in-Some.n w c.in-Some.ensures (c.in_err-end_line.ensures.answers w.begun w.keeps);
       chunks = chunks_alike;
       lawful = lines_lawful;
     }
@@ -24,14 +24,14 @@ loop-n-preserved g c = (
   search rules,
   λ p keeps.
       let w = c.loop-n.invariant.1 p keeps in
-      let told = c.in-ok-end-line.ensures in
+      let told = c.in_ok-end_line.ensures in
       goes_on _ c.in-Some.n w c.in-Some.ensures (told.answers w.begun w.keeps) (told.clears refl),
 )
 
 pub returns : goal.returns
 returns g c =
     record {
-      feeds = λ p keeps. ends c.extend.new.self (c.loop-n.invariant.1 p keeps) c.in-default.ensures (search rules);
+      feeds = λ p keeps. ends c.extend.new.self (c.loop-n.invariant.1 p keeps) c.in_default.ensures (search rules);
       chunks = chunks_alike;
       lawful = lines_lawful;
     }

@@ -15,14 +15,14 @@ loop-call-preserved g c = (
   search rules,
   λ o e.
       let same : length (vec_items c.loop-call.answers) ≡ c.loop-call.call-index = search rules in
-      rw c.push-reserved.ensures.items
+      rw c.push_reserved.ensures.items
       (leads_more o c.args.calls.now c.loop-call.call-index (vec_items c.loop-call.answers) _ _ _ _ (search rules) same c.perform.ensures.extends (c.loop-call.invariant.2 o e)),
 )
 
 pub returns : goal.returns
 returns g c =
-    let o = opens_on (g.S.Register.shows c.args.securities) (g.C.Register.shows c.args.cash) c.args.first-day in
+    let o = opens_on (g.S.Register.shows c.args.securities) (g.C.Register.shows c.args.cash) c.args.first_day in
     let state = state_of g.S.Register.shows g.C.Register.shows in
     let leads : Leads o (history c.args.calls.now (vec_items c.loop-call.answers)) (state c.loop-call.book) =
-    leads_all o c.args.calls.now c.loop-call.call-index _ _ (search rules) (c.loop-call.invariant.2 o c.in-ok-book.ensures) in
+    leads_all o c.args.calls.now c.loop-call.call-index _ _ (search rules) (c.loop-call.invariant.2 o c.in_ok-book.ensures) in
     record { answered = search rules; leads = leads; lawful = all_lawful leads }

@@ -5,13 +5,13 @@ use Rattle.netting.specs.Limits.{too_large}
 use Rattle.netting.proofs.Search.{first_none_more, none_from, none_fails}
 use Rattle.netting.proofs.limits.all_small.Goals as goal
 
-pub returns-then-amount-gt-MOST-HELD : goal.returns-then-amount-gt-MOST-HELD
+pub returns-then-amount-gt-MOST_HELD : goal.returns-then-amount-gt-MOST_HELD
 unfolding places
-returns-then-amount-gt-MOST-HELD c =
-    sym (none_fails (too_large c.args.amounts.now) places c.loop-amount.amount-index (omega arith) (lt-ltb _ _ c.if-amount-gt-MOST-HELD.true))
+returns-then-amount-gt-MOST_HELD c =
+    sym (none_fails (too_large c.args.amounts.now) places c.loop-amount.amount-index (omega arith) (lt-ltb _ _ c.if-amount-gt-MOST_HELD.true))
 
 pub loop-amount-preserved : goal.loop-amount-preserved
-loop-amount-preserved c = first_none_more (too_large c.args.amounts.now) c.loop-amount.amount-index c.loop-amount.invariant (le-ltb _ _ c.if-amount-gt-MOST-HELD.false)
+loop-amount-preserved c = first_none_more (too_large c.args.amounts.now) c.loop-amount.amount-index c.loop-amount.invariant (le-ltb _ _ c.if-amount-gt-MOST_HELD.false)
 
 pub returns : goal.returns
 unfolding places

@@ -5,5 +5,5 @@ use Rattle.netting.proofs.limits.fitting.Goals as goal
 
 pub returns-then-movements-le-MOVEMENTS : goal.returns-then-movements-le-MOVEMENTS
 returns-then-movements-le-MOVEMENTS c =
-    let test : c.all-fit.result ≡ fitting c.args.movements.now = search rules in
+    let test : c.all_fit.result ≡ fitting c.args.movements.now = search rules in
     record { test = test; facts = λ e. fitting_facts c.args.movements.now (sym test ∙ e) }

@@ -8,10 +8,10 @@ use Rattle.netting.proofs.Balance.{balanced}
 use Rattle.netting.proofs.Rejoining.{strikes_sound}
 use Rattle.netting.proofs.steps.settled.Goals as goal
 
-pub rejoin-all-requires : goal.rejoin-all-requires
-rejoin-all-requires c =
+pub rejoin_all-requires : goal.rejoin_all-requires
+rejoin_all-requires c =
     let struck = strikes_sound c.args.movements.now c.args.amounts.now c.args.tried.now c.args.tried.now c.requires.fitting (omega (arith, c.requires.fitting.few)) in
-    record { bounded = c.requires; kept = c.strike-all.ensures.kept; sound = rw c.strike-all.ensures.after struck }
+    record { bounded = c.requires; kept = c.strike_all.ensures.kept; sound = rw c.strike_all.ensures.after struck }
 
 pub returns : goal.returns
 returns c =
@@ -20,15 +20,15 @@ returns c =
     let tried = c.args.tried.now in
     let fitting = c.requires.fitting in
     let long : length movements ≤ length tried = omega (arith, fitting.few) in
-    let is : c.rejoin-all.new.self.marks ≡ settling movements amounts tried = search rules in
+    let is : c.rejoin_all.new.self.marks ≡ settling movements amounts tried = search rules in
     record {
       settling = is;
       some_taker = some_taker movements amounts fitting;
       strikes_end = step_1_ends movements amounts fitting;
       none_short = settling_none_short movements amounts fitting tried _ long is;
       none_covered = settling_none_covered movements amounts fitting tried _ long is;
-      only-tried = subst (OnlyTried tried) (sym is) (settling_only_tried movements amounts tried);
+      only_tried = subst (OnlyTried tried) (sym is) (settling_only_tried movements amounts tried);
       highest_struck = highest_struck movements amounts c.requires;
       lowest_rejoins = lowest_rejoins movements amounts c.requires tried;
-      balanced = balanced movements c.rejoin-all.new.self.marks fitting;
+      balanced = balanced movements c.rejoin_all.new.self.marks fitting;
     }

@@ -6,9 +6,9 @@ use Rattle.netting.specs.Tables.{after_in}
 use Rattle.netting.proofs.Search.{first_is, first_none_more}
 use Rattle.netting.proofs.strikes.first_short.Goals as goal
 
-pub returns-then-amount-after-lt0 : goal.returns-then-amount-after-lt0
+pub returns-then-amount_after-lt0 : goal.returns-then-amount_after-lt0
 unfolding places
-returns-then-amount-after-lt0 c =
+returns-then-amount_after-lt0 c =
     sym (first_is (λ p. lt_z (after_in c.args.amounts.now c.args.positions.now p) (pos 0)) places c.loop-place.place (omega arith) c.loop-place.invariant (grind (arith, ints)))
 
 pub loop-place-preserved : goal.loop-place-preserved

@@ -20,11 +20,16 @@ returns c =
     (ap (set d.movements c.in-Some.i) (c.consented.ensures ∙ ap (λ x. consented x c.args.participant d.half) read)
     ∙ sym (at.changed (λ x. consented x c.args.participant d.half) m)))
 
-pub invariant-of-self : goal.invariant-of-self
-invariant-of-self c =
+pub invariant_of-self : goal.invariant_of-self
+invariant_of-self c =
     let self = c.args.self.now in
     let ms = vec_items self.movements in
     let m = c.index.result.now in
     let fits : movement_fits self.accounts self.kinds m ≡ true =
     rw c.index.ensures (fit_at self.accounts self.kinds ms c.in-Some.i m self.bounds c.in-Some.ensures.within) in
-    (search rules, (search rules, (self.agreements, (fit_set self.accounts self.kinds ms c.in-Some.i c.consented.result self.bounds (rw c.consented.ensures fits), tt))))
+    record {
+      few = search rules;
+      room = search rules;
+      agreements = self.agreements;
+      bounds = fit_set self.accounts self.kinds ms c.in-Some.i c.consented.result self.bounds (rw c.consented.ensures fits);
+    }

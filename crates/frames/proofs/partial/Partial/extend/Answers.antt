@@ -4,7 +4,7 @@ use Rattle.frames.proofs.partial.Partial.extend.Goals as goal
 
 pub returns : goal.returns
 returns c =
-    let put = c.copy-from-slice.new.self in
+    let put = c.copy_from_slice.new.self in
     record {
       keeps = kept_joined _ c.args.part.now put _ c.fitting-count.result _ 77 (search rules) (search rules) c.fitting-count.ensures (search rules);
       same = cut_alike;

@@ -11,8 +11,8 @@ covered-requires c = record {
   room = kept_roomy c.args.movements.now c.args.self.now.marks c.args.self.now.positions c.requires.bounded.fitting c.requires.kept;
 }
 
-pub returns-then-was-struck : goal.returns-then-was-struck
-returns-then-was-struck c =
+pub returns-then-was_struck : goal.returns-then-was_struck
+returns-then-was_struck c =
     let movements = c.args.movements.now in
     let amounts = c.args.amounts.now in
     let marks = c.args.self.now.marks in

@@ -4,8 +4,8 @@ use Rattle.netting.proofs.Bounds.{kept_roomy}
 use Rattle.netting.proofs.Shortage.{first_short_in}
 use Rattle.netting.proofs.net.Net.next_to_strike.Goals as goal
 
-pub first-short-requires : goal.first-short-requires
-first-short-requires c = record {
+pub first_short-requires : goal.first_short-requires
+first_short-requires c = record {
   small = c.requires.bounded.small;
   room = kept_roomy c.args.movements.now c.args.self.now.marks c.args.self.now.positions c.requires.bounded.fitting c.requires.kept;
 }

@@ -1,5 +1,5 @@
 -- The opening of a book.
-use Rattle.std.specs.Prelude.{ℕ, zero, suc, Bool, true, ◌&&◌, leb, List, [], ◌∷◌, Some, None, Option, ◌==◌, nat_le}
+use Rattle.std.specs.Prelude.{ℕ, zero, suc, Bool, true, ◌&&◌, List, [], ◌∷◌, Some, None, Option, ◌==◌, nat_le}
 use Rattle.register.specs.Holdings.{Holdings, limit, total}
 use Rattle.fault.specs.declared.fault.Fault.TheVariants.{AccountCount, KindCount, OpeningSum, FirstDay}
 use Rattle.fault.specs.declared.fault.Fault.{Fault}
@@ -25,7 +25,7 @@ all_below (suc n) f = all_below n f && f n
 
 -- no kind's sum over all accounts passes 10^15
 abbrev pub sums_within : Holdings → Bool
-sums_within h = all_below h.kinds (λ k. leb (total h k) limit)
+sums_within h = all_below h.kinds (λ k. nat_le (total h k) limit)
 
 -- the last day on which a book can open
 abbrev pub last_day : ℕ

@@ -5,8 +5,8 @@ use Rattle.std.proofs.lemmas.List.{get_or-set_same, get_or-set_other, get_or_pas
 use Rattle.std.proofs.lemmas.Bool.{cases_eq, cases_lt, cond-true, cond-false, eq-eqb, ne_eqb, both_ways}
 
 -- one number raised
-pub get_d_raised : (xs : List ℤ) (i : ℕ) (x by : ℤ) (j : ℕ) → i < length xs → x ≡ get_or xs i (pos 0) +ℤ by → get_or (set xs i x) j (pos 0) ≡ get_or xs j (pos 0) +ℤ cond (eqb j i) by (pos 0)
-get_d_raised xs i x by j within e =
+pub get_or_raised : (xs : List ℤ) (i : ℕ) (x by : ℤ) (j : ℕ) → i < length xs → x ≡ get_or xs i (pos 0) +ℤ by → get_or (set xs i x) j (pos 0) ≡ get_or xs j (pos 0) +ℤ cond (eqb j i) by (pos 0)
+get_or_raised xs i x by j within e =
     ⊎_elim
     (λ (q : j ≡ i). rw q (rw (cond-true (eqb i i) by (pos 0) (eq-eqb i i refl)) (get_or-set_same xs i x (pos 0) within ∙ e)))
     (λ (q : j ≡ i → ⊥). rw (cond-false (eqb j i) by (pos 0) (ne_eqb j i q)) (let kept = get_or-set_other xs i j x (pos 0) q in omega (arith, ints)))

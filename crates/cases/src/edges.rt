@@ -3,17 +3,17 @@ use crate::building::{Depository, compare, expect, opened, opened_on};
 use crate::calls::{money, numbered, shares, terms};
 use crate::changes::{Change, Field, changed};
 use history::Call;
-use std::process::Abort;
 use std::test::Fail;
 
 const MOST: u64 = 1_000_000_000_000;
 
 // Trades 1, 2 and on, each with a change, and the number of its answer.
-fn compare_changed(rt: &impl Abort, book: &mut Depository, cases: &[(Change, u8)]) {
+fn compare_changed(book: &mut Depository, cases: &[(Change, u8)]) -> Result<(), Fail> {
     for (number, (change, expected)) in (1..=99).zip(cases.iter()) {
         let call = Call::Trade(changed(numbered(number), *change));
-        expect(rt, book, call, *expected);
+        expect(book, call, *expected)?;
     }
+    Ok(())
 }
 
 #[test]
@@ -37,8 +37,7 @@ fn a_trade_is_taken_within_its_edges(rt: HostRuntime) -> Result<(), Fail> {
         (Change::Number(u32::MAX), 0),
         (Change::Number(u32::MAX), 20),
     ];
-    compare_changed(&rt, &mut opened(&rt, rt.alloc())?, &cases);
-    Ok(())
+    compare_changed(&mut opened(rt.alloc())?, &cases)
 }
 
 #[test]
@@ -50,8 +49,7 @@ fn a_trade_settles_within_30_days_of_the_latest_opening(rt: HostRuntime) -> Resu
         (Change::Day(60_031), 26),
         (Change::Day(u16::MAX), 26),
     ];
-    compare_changed(&rt, &mut opened_on(&rt, rt.alloc(), 60_000)?, &cases);
-    Ok(())
+    compare_changed(&mut opened_on(rt.alloc(), 60_000)?, &cases)
 }
 
 #[test]
@@ -79,14 +77,14 @@ fn each_side_of_a_trade_is_taken_within_its_edges(rt: HostRuntime) -> Result<(),
         (Field::Clearing(*b"V0/2"), 29),
         (Field::Clearing(*b"V0:2"), 29),
     ];
-    let mut book = opened(&rt, rt.alloc())?;
+    let mut book = opened(rt.alloc())?;
     for (number, (field, expected)) in (1..=21).zip(cases.iter()) {
         let sold = changed(numbered(number), Change::Seller(*field));
-        expect(&rt, &mut book, Call::Trade(sold), *expected);
+        expect(&mut book, Call::Trade(sold), *expected)?;
     }
     for (number, (field, expected)) in (22..=42).zip(cases.iter()) {
         let bought = changed(numbered(number), Change::Buyer(*field));
-        expect(&rt, &mut book, Call::Trade(bought), *expected);
+        expect(&mut book, Call::Trade(bought), *expected)?;
     }
     Ok(())
 }
@@ -115,15 +113,14 @@ fn payments_and_terms_are_taken_within_their_edges(rt: HostRuntime) -> Result<()
         (terms(16, b'I', 31, 32), 42),
         (terms(16, b'I', 31, 0), 42),
     ];
-    compare(&rt, &mut opened(&rt, rt.alloc())?, &cases);
-    Ok(())
+    compare(&mut opened(rt.alloc())?, &cases)
 }
 
 #[test]
 fn a_kind_is_paid_in_up_to_its_limit(rt: HostRuntime) -> Result<(), Fail> {
-    let mut book = opened(&rt, rt.alloc())?;
+    let mut book = opened(rt.alloc())?;
     for _ in 0..1000 {
-        expect(&rt, &mut book, Call::PayIn(shares(0, 1), MOST), 0);
+        expect(&mut book, Call::PayIn(shares(0, 1), MOST), 0)?;
     }
     let cases = [
         (Call::PayIn(shares(0, 2), MOST + 1), 13),
@@ -134,6 +131,5 @@ fn a_kind_is_paid_in_up_to_its_limit(rt: HostRuntime) -> Result<(), Fail> {
         (Call::PayIn(shares(0, 2), 2), 14),
         (Call::PayIn(shares(0, 2), 1), 0),
     ];
-    compare(&rt, &mut book, &cases);
-    Ok(())
+    compare(&mut book, &cases)
 }

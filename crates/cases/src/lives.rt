@@ -25,9 +25,9 @@ fn own(number: u32) -> Call {
 
 #[test]
 fn the_movement_129_waits_until_one_is_cancelled(rt: HostRuntime) -> Result<(), Fail> {
-    let mut book = opened(&rt, rt.alloc())?;
+    let mut book = opened(rt.alloc())?;
     for number in 1..=128 {
-        expect(&rt, &mut book, trade(number), 0);
+        expect(&mut book, trade(number), 0)?;
     }
     let cases = [
         (trade(129), 32),
@@ -39,8 +39,7 @@ fn the_movement_129_waits_until_one_is_cancelled(rt: HostRuntime) -> Result<(), 
         (Call::Cancel(129), 0),
         (trade(130), 0),
     ];
-    compare(&rt, &mut book, &cases);
-    Ok(())
+    compare(&mut book, &cases)
 }
 
 #[test]
@@ -58,8 +57,7 @@ fn only_an_accepted_trade_uses_its_number_up(rt: HostRuntime) -> Result<(), Fail
         (trade(6), 0),
         (Call::Cancel(6), 0),
     ];
-    compare(&rt, &mut opened(&rt, rt.alloc())?, &cases);
-    Ok(())
+    compare(&mut opened(rt.alloc())?, &cases)
 }
 
 #[test]
@@ -87,8 +85,7 @@ fn giver_and_payer_consent_once(rt: HostRuntime) -> Result<(), Fail> {
         (Call::Consent(3, 4), 0),
         (Call::Cancel(3), 0),
     ];
-    compare(&rt, &mut opened(&rt, rt.alloc())?, &cases);
-    Ok(())
+    compare(&mut opened(rt.alloc())?, &cases)
 }
 
 #[test]
@@ -109,8 +106,7 @@ fn a_one_off_participant_has_the_duties(rt: HostRuntime) -> Result<(), Fail> {
         (Call::Consent(3, 31), 51),
         (Call::Consent(3, 1), 0),
     ];
-    compare(&rt, &mut opened(&rt, rt.alloc())?, &cases);
-    Ok(())
+    compare(&mut opened(rt.alloc())?, &cases)
 }
 
 #[test]
@@ -137,6 +133,5 @@ fn a_movement_keeps_the_terms_that_it_took(rt: HostRuntime) -> Result<(), Fail> 
         (Call::Consent(5, 1), 51),
         (Call::Consent(5, 7), 0),
     ];
-    compare(&rt, &mut opened(&rt, rt.alloc())?, &cases);
-    Ok(())
+    compare(&mut opened(rt.alloc())?, &cases)
 }

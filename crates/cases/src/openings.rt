@@ -33,7 +33,7 @@ fn an_opening_gets_its_first_no(rt: HostRuntime) -> Result<(), Fail> {
     ];
     for (opening, number) in cases.iter() {
         let mut book = opened(rt.alloc(), *opening)?;
-        expect(&rt, &mut book, Call::Tell(shares(0, 0)), *number);
+        expect(&mut book, Call::Tell(shares(0, 0)), *number)?;
     }
     Ok(())
 }
@@ -63,8 +63,8 @@ fn a_book_whose_opening_failed_answers_every_call_by_its_number(
     ];
     for (opening, number) in cases.iter() {
         let mut book = opened(rt.alloc(), *opening)?;
-        compare(&rt, &mut book, &one_of_each(*number));
-        compare(&rt, &mut book, &one_of_each(*number));
+        compare(&mut book, &one_of_each(*number))?;
+        compare(&mut book, &one_of_each(*number))?;
     }
     Ok(())
 }

@@ -29,34 +29,32 @@ const REFUSED: [(Change, u8); 17] = [
 
 #[test]
 fn a_trade_that_fails_two_questions_gets_the_first(rt: HostRuntime) -> Result<(), Fail> {
-    let mut book = opened(&rt, rt.alloc())?;
+    let mut book = opened(rt.alloc())?;
     for (i, (first, number)) in REFUSED.iter().enumerate() {
         for (second, _) in REFUSED.iter().skip(i) {
             let twice = changed(changed(numbered(1), *second), *first);
-            expect(&rt, &mut book, Call::Trade(twice), *number);
+            expect(&mut book, Call::Trade(twice), *number)?;
         }
     }
-    expect(&rt, &mut book, trade(1), 0);
-    Ok(())
+    expect(&mut book, trade(1), 0)
 }
 
 #[test]
 fn a_full_book_is_asked_last(rt: HostRuntime) -> Result<(), Fail> {
-    let mut book = opened(&rt, rt.alloc())?;
+    let mut book = opened(rt.alloc())?;
     for number in 1..=128 {
-        expect(&rt, &mut book, trade(number), 0);
+        expect(&mut book, trade(number), 0)?;
     }
     for (change, number) in REFUSED.iter() {
         let refused = changed(numbered(129), *change);
-        expect(&rt, &mut book, Call::Trade(refused), *number);
+        expect(&mut book, Call::Trade(refused), *number)?;
     }
-    expect(&rt, &mut book, trade(129), 32);
-    Ok(())
+    expect(&mut book, trade(129), 32)
 }
 
 #[test]
 fn other_calls_that_fail_two_questions_get_the_first(rt: HostRuntime) -> Result<(), Fail> {
-    let mut book = opened(&rt, rt.alloc())?;
+    let mut book = opened(rt.alloc())?;
     let nowhere = Place {
         side: 2,
         kind: 4,
@@ -81,6 +79,5 @@ fn other_calls_that_fail_two_questions_get_the_first(rt: HostRuntime) -> Result<
         (Call::Consent(1, 9), 51),
         (Call::Cancel(2), 50),
     ];
-    compare(&rt, &mut book, &cases);
-    Ok(())
+    compare(&mut book, &cases)
 }

@@ -27,3 +27,8 @@ asked qs v = unless (first_no qs) (Ok v)
 -- nothing more to answer, unless a question is answered no
 abbrev pub passes : List Question → Result Unit Fault
 passes qs = asked qs tt
+
+-- the value, or refused by f where there is none
+abbrev pub or_fault : {A : Type 0} → Fault → Option A → Result A Fault
+or_fault f None = Err f
+or_fault f (Some v) = Ok v

@@ -7,3 +7,4 @@ pub mod Clearing
 pub mod Forming
 pub mod Consents
 pub mod Bounds
+pub mod Sides

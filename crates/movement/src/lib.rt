@@ -11,6 +11,7 @@ mod forming;
 pub mod half;
 pub mod movement;
 pub mod party;
+pub mod side;
 pub mod terms;
 pub mod trade;
 
@@ -21,5 +22,6 @@ pub use forming::form;
 pub use half::Half;
 pub use movement::Movement;
 pub use party::Party;
+pub use side::Side;
 pub use terms::{Setting, Terms};
 pub use trade::{Trade, TradeSide};

@@ -1,14 +1,12 @@
 -- Where the rows of kinds and accounts stand, and what a row rewritten changes.
-use Rattle.std.proofs.Common.{◌≡◌, ℕ, ◌+◌, ◌*◌, ◌/◌, ◌%◌, ◌<◌, ◌≤◌, min, ◌&&◌, nat_lt, List, Ok, length, get_or, slice_set, replicate, sym, refl, ap, ◌∙◌, div-mul-le_self, arith}
+use Rattle.std.proofs.Common.{◌≡◌, ℕ, ◌+◌, ◌*◌, ◌/◌, ◌%◌, ◌<◌, List, Ok, length, get_or, slice_set, sym, refl, ap, ◌∙◌, div-mul-le_self, arith}
 use Rattle.std.proofs.lemmas.Nat.{mul-add-lt, div-mul-add, mod-mul-add}
-use Rattle.std.proofs.lemmas.List.{length-set, length-replicate, get_or_default, get_or-replicate, get_or-set_same, get_or-set_other}
-use Rattle.std.proofs.lemmas.Bool.{cond_both}
-use Rattle.std.proofs.Math.Nat.{mul-div_cancel_left}
+use Rattle.std.proofs.lemmas.List.{length-set, get_or_default, get_or-set_same, get_or-set_other}
 use Rattle.std.proofs.lemmas.Bool.Decides.{nat_tests}
 use Rattle.register.specs.Answers.{entry_answer, Enters}
 use Rattle.register.specs.Entry.{room_for, amount_after}
 use Rattle.register.specs.declared.entry.Entry.{Entry}
-use Rattle.register.specs.Holdings.{most, zero_holdings, with_amount}
+use Rattle.register.specs.Holdings.{with_amount}
 use Rattle.register.specs.Rows.{stride, place, written, laid, Known}
 use Rattle.register.proofs.Alike.{same_holdings}
 
@@ -39,18 +37,6 @@ rewritten {X} counts none kinds rows k a x known =
 pub read_back : {X : Type 0} (none : X) (kinds : ℕ) (rows : List X) (k a : ℕ) (x : X) → Known kinds rows k a →
     get_or (written kinds rows k a x) (place kinds (written kinds rows k a x) k a) none ≡ x
 read_back none kinds rows k a x known = let within = place_within kinds rows k a known in simp length-set (get_or-set_same rows (place kinds rows k a) x none within)
-
--- rows on which nothing has been entered show nothing
-pub zero_rows : {X : Type 0} (counts : X → ℕ) (none : X) (kinds accounts : ℕ) → counts none ≡ 0 → 0 < kinds → kinds ≤ most → accounts ≤ most →
-    laid kinds (replicate (kinds * accounts) none) counts none ≡ zero_holdings kinds accounts
-zero_rows {X} counts none kinds accounts nothing some few_kinds few_accounts =
-    let rows = replicate (kinds * accounts) none in
-    let long : length rows ≡ kinds * accounts = length-replicate (kinds * accounts) none in
-    let each : stride kinds rows ≡ accounts = rw (long, mul-div_cancel_left accounts some) in
-    same_holdings (omega arith) (omega arith)
-    (λ k a. cond_both (nat_lt k (min kinds most) && nat_lt a (min (stride kinds rows) most)) _ 0 (λ n. n ≡ 0)
-    (λ shown. rw (get_or-replicate (kinds * accounts) (place kinds rows k a) none none (omega (arith, place_within kinds rows k a (grind (arith, nat_tests))))) nothing)
-    (λ _. refl))
 
 -- an entry in the row of a kind and an account is one in what the rows show
 pub row_enters : {X : Type 0} (counts : X → ℕ) (none : X) (kinds : ℕ) (rows : List X) (k a : ℕ) (e : Entry) (p : ℕ) (old new : X) → Known kinds rows k a → p ≡ place kinds rows k a →

@@ -1,5 +1,5 @@
 -- When an entry and a transfer are refused, and what they leave.
-use Rattle.std.specs.Prelude.{◌≡◌, ℕ, ◌+◌, Bool, cond, not, ◌&&◌, ◌||◌, is_ok, Ok, Err, Result, ◌==◌, nat_le, nat_lt}
+use Rattle.std.specs.Prelude.{◌≡◌, ℕ, ◌+◌, cond, not, ◌&&◌, ◌||◌, is_ok, Ok, Result, ◌==◌, nat_le, nat_lt}
 use Rattle.register.specs.Holdings.{Holdings, limit, raised, lowered, moved}
 use Rattle.register.specs.Entry.{room_for, holdings_after}
 use Rattle.register.specs.declared.entry.Entry.{Entry}

@@ -1,6 +1,5 @@
 -- Rows that go kind by kind, as many for each kind.
-use Rattle.std.specs.Prelude.{◌≡◌, ℕ, ◌+◌, ◌*◌, ◌/◌, ◌<◌, ◌≤◌, min, cond, ◌&&◌, List, length, is_ok, Ok, Result, nat_lt, slice_index_or, slice_set}
-use Rattle.register.specs.Answers.{unless_unknown}
+use Rattle.std.specs.Prelude.{ℕ, ◌+◌, ◌*◌, ◌/◌, ◌<◌, ◌≤◌, min, cond, ◌&&◌, List, length, is_ok, Result, nat_lt, slice_index_or, slice_set}
 use Rattle.std.proofs.Math.Nat.{le-add_right}
 use Rattle.std.proofs.lemmas.Bool.{cond_both}
 use Rattle.register.specs.Holdings.{Holdings, limit, most}

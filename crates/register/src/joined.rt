@@ -19,7 +19,8 @@ pub struct Joined<S: Register, C: Register> {
 impl<S: Register, C: Register> Joined<S, C> {
     /// The two as one: the accounts that both have, and as many kinds as a register may show.
     pub fn new(first: S, second: C) -> Joined<S, C>
-        ensures shows { joined_shows S.Register.shows C.Register.shows result ≡ joined_holdings (S.Register.shows first) (C.Register.shows second) }
+        ensures shows { joined_shows S.Register.shows C.Register.shows result
+            ≡ joined_holdings (S.Register.shows first) (C.Register.shows second) }
         ensures first { first_of result ≡ first }
         ensures second { second_of result ≡ second }
     {
@@ -70,8 +71,11 @@ impl<S: Register, C: Register> Register for Joined<S, C> {
     }
 
     fn enter(&mut self, kind: usize, account: usize, entry: Entry) -> Result<(), Refusal>
-        ensures enters { Enters (joined_shows S.Register.shows C.Register.shows self.old) kind account entry result (joined_shows S.Register.shows C.Register.shows self.new) }
-        ensures parts { PartsLeft (S.Register.shows (first_of self.old)) (C.Register.shows (second_of self.old)) (λ h k. holdings_after h k account entry) kind result (S.Register.shows (first_of self.new)) (C.Register.shows (second_of self.new)) }
+        ensures enters { Enters (joined_shows S.Register.shows C.Register.shows self.old) kind account entry result
+            (joined_shows S.Register.shows C.Register.shows self.new) }
+        ensures parts { PartsLeft (S.Register.shows (first_of self.old)) (C.Register.shows (second_of self.old))
+            (λ h k. holdings_after h k account entry) kind result
+            (S.Register.shows (first_of self.new)) (C.Register.shows (second_of self.new)) }
     {
         self.ask_known(kind, account)?;
         let first = self.first.kinds();
@@ -83,15 +87,21 @@ impl<S: Register, C: Register> Register for Joined<S, C> {
     }
 
     fn put(&mut self, kind: usize, account: usize, amount: u64) -> Result<(), Refusal>
-        ensures put { Put (joined_shows S.Register.shows C.Register.shows self.old) kind account amount result (joined_shows S.Register.shows C.Register.shows self.new) }
-        ensures parts { PartsLeft (S.Register.shows (first_of self.old)) (C.Register.shows (second_of self.old)) (λ h k. raised h k account amount) kind result (S.Register.shows (first_of self.new)) (C.Register.shows (second_of self.new)) }
+        ensures put { Put (joined_shows S.Register.shows C.Register.shows self.old) kind account amount result
+            (joined_shows S.Register.shows C.Register.shows self.new) }
+        ensures parts { PartsLeft (S.Register.shows (first_of self.old)) (C.Register.shows (second_of self.old))
+            (λ h k. raised h k account amount) kind result
+            (S.Register.shows (first_of self.new)) (C.Register.shows (second_of self.new)) }
     {
         self.enter(kind, account, Entry::Put(amount))
     }
 
     fn take(&mut self, kind: usize, account: usize, amount: u64) -> Result<(), Refusal>
-        ensures taken { Taken (joined_shows S.Register.shows C.Register.shows self.old) kind account amount result (joined_shows S.Register.shows C.Register.shows self.new) }
-        ensures parts { PartsLeft (S.Register.shows (first_of self.old)) (C.Register.shows (second_of self.old)) (λ h k. lowered h k account amount) kind result (S.Register.shows (first_of self.new)) (C.Register.shows (second_of self.new)) }
+        ensures taken { Taken (joined_shows S.Register.shows C.Register.shows self.old) kind account amount result
+            (joined_shows S.Register.shows C.Register.shows self.new) }
+        ensures parts { PartsLeft (S.Register.shows (first_of self.old)) (C.Register.shows (second_of self.old))
+            (λ h k. lowered h k account amount) kind result
+            (S.Register.shows (first_of self.new)) (C.Register.shows (second_of self.new)) }
     {
         self.enter(kind, account, Entry::Take(amount))
     }

@@ -75,7 +75,8 @@ impl<X: Cell> RowRegister<X> {
 
     // Where the row of a kind and an account stands.
     fn locate(&self, kind: usize, account: usize) -> Result<usize, Refusal>
-        ensures place { result ≡ unless_unknown (holdings_of X.amount X.empty self.now) kind account (Ok (place_of (kinds_of self.now) (rows_of self.now) kind account)) }
+        ensures place { result ≡ unless_unknown (holdings_of X.amount X.empty self.now) kind account
+            (Ok (place_of (kinds_of self.now) (rows_of self.now) kind account)) }
         ensures within { IfOk result (λ place. place < length (rows_of self.now)) }
     {
         self.ask_known(kind, account)?;
@@ -118,8 +119,10 @@ impl<X: Cell> Register for RowRegister<X> {
     }
 
     fn enter(&mut self, kind: usize, account: usize, entry: Entry) -> Result<(), Refusal>
-        ensures enters { Enters (holdings_of X.amount X.empty self.old) kind account entry result (holdings_of X.amount X.empty self.new) }
-        ensures entered { Entered X.empty X.kept self.old kind account (X.with_entry (row_of X.empty self.old kind account) entry) result self.new }
+        ensures enters { Enters (holdings_of X.amount X.empty self.old) kind account entry result
+            (holdings_of X.amount X.empty self.new) }
+        ensures entered { Entered X.empty X.kept self.old kind account
+            (X.with_entry (row_of X.empty self.old kind account) entry) result self.new }
     {
         let place = self.locate(kind, account)?;
         let row = self.rows[place];
@@ -129,15 +132,19 @@ impl<X: Cell> Register for RowRegister<X> {
     }
 
     fn put(&mut self, kind: usize, account: usize, amount: u64) -> Result<(), Refusal>
-        ensures put { Put (holdings_of X.amount X.empty self.old) kind account amount result (holdings_of X.amount X.empty self.new) }
-        ensures entered { Entered X.empty X.kept self.old kind account (X.with_entry (row_of X.empty self.old kind account) (putting amount)) result self.new }
+        ensures put { Put (holdings_of X.amount X.empty self.old) kind account amount result
+            (holdings_of X.amount X.empty self.new) }
+        ensures entered { Entered X.empty X.kept self.old kind account
+            (X.with_entry (row_of X.empty self.old kind account) (putting amount)) result self.new }
     {
         self.enter(kind, account, Entry::Put(amount))
     }
 
     fn take(&mut self, kind: usize, account: usize, amount: u64) -> Result<(), Refusal>
-        ensures taken { Taken (holdings_of X.amount X.empty self.old) kind account amount result (holdings_of X.amount X.empty self.new) }
-        ensures entered { Entered X.empty X.kept self.old kind account (X.with_entry (row_of X.empty self.old kind account) (taking amount)) result self.new }
+        ensures taken { Taken (holdings_of X.amount X.empty self.old) kind account amount result
+            (holdings_of X.amount X.empty self.new) }
+        ensures entered { Entered X.empty X.kept self.old kind account
+            (X.with_entry (row_of X.empty self.old kind account) (taking amount)) result self.new }
     {
         self.enter(kind, account, Entry::Take(amount))
     }

@@ -1,5 +1,5 @@
 -- The clearing field: four characters.
-use Rattle.std.specs.Prelude.{ℕ, ◌+◌, ◌-◌, ◌*◌, Bool, cond, ◌&&◌, ◌||◌, List, [], ◌∷◌, Some, None, Option, ◌==◌, nat_le, nat_lt, slice_index}
+use Rattle.std.specs.Prelude.{ℕ, ◌+◌, ◌-◌, ◌*◌, Bool, if◌then◌else◌, ◌&&◌, ◌||◌, List, [], ◌∷◌, Some, None, Option, ◌==◌, nat_le, nat_lt, slice_index}
 use Rattle.std.specs.Char.{is_ascii_digit}
 use Rattle.fault.specs.declared.fault.Fault.TheVariants.{ClearingField, ClearingLetter, ClearingParticipant}
 use Rattle.fault.specs.Questions.{Question, ask}
@@ -31,4 +31,4 @@ clearing_questions accounts f =
 
 -- the participant of one-off terms, if there are any
 abbrev pub one_off_of : List ℕ → Option ℕ
-one_off_of f = cond (blank f) None (Some (digits f))
+one_off_of f = if blank f then None else Some (digits f)

@@ -7,12 +7,12 @@ use Rattle.register.specs.declared.refusal.Refusal.{Refusal}
 use Rattle.book.specs.declared.place.Place.{Place}
 use Rattle.fault.specs.Questions.{passes}
 use Rattle.book.specs.Paying.{payment_questions}
-use Rattle.book.proofs.Totals.{term_within}
+use Rattle.register.proofs.Sums.{range_term}
 
 -- after the questions of a pay-in the register does not refuse it
 pub put_passes : (h : Holdings) (p : Place) (n : ℕ) → passes (payment_questions h p n) ≡ Ok tt → total h p.kind + n ≤ limit → put_answer h p.kind p.account n ≡ Ok tt
 put_passes h p n passed stays =
-    let held = term_within (h.amount p.kind) h.accounts p.account in
+    let held = range_term (h.amount p.kind) h.accounts p.account in
     grind (arith, nat_tests)
 
 -- an answer is no refusal

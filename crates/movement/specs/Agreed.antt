@@ -6,6 +6,7 @@ use Rattle.movement.specs.declared.category.Category.TheVariants.{Main}
 use Rattle.movement.specs.declared.limits.TheConstants.{MEMBERS}
 use Rattle.movement.specs.Letters.{row}
 
+-- what each member has set for each category, if anything
 abbrev pub Agreed : Type 0
 Agreed = ℕ → Category → Option (ℕ × ℕ)
 

@@ -128,7 +128,8 @@ impl Terms {
     fn set(&mut self, member: u8, category: Category, custodians: (u8, u8))
         requires member { member_known member ≡ true }
         requires participants { pair_fits (accounts_of self.old) custodians ≡ true }
-        ensures terms { agreed self.new ≡ with_terms (agreed self.old) member category custodians }
+        ensures terms { agreed self.new
+            ≡ with_terms (agreed self.old) member category custodians }
         ensures accounts { accounts_of self.new ≡ accounts_of self.old }
     {
         self.rows[member as usize - 1].set(category, custodians);

@@ -7,6 +7,7 @@ pub record Question : Type 0 where
   pub holds : Bool
   pub fault : Fault
 
+-- the question whether b, f its fault
 abbrev pub ask : Bool → Fault → Question
 ask b f = record { holds = b; fault = f }
 

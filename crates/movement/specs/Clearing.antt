@@ -4,6 +4,7 @@ use Rattle.std.specs.Char.{is_ascii_digit}
 use Rattle.fault.specs.declared.fault.Fault.TheVariants.{ClearingField, ClearingLetter, ClearingParticipant}
 use Rattle.fault.specs.Questions.{Question, ask}
 
+-- the character at a place of the field
 abbrev pub character : List ℕ → ℕ → ℕ
 character f i = slice_index f i
 

@@ -16,6 +16,7 @@ use Rattle.movement.specs.Clearing.{clearing_questions, one_off_of}
 abbrev pub standard_pair : Agreed → TradeSide → Option (ℕ × ℕ)
 standard_pair t side = option_and_then (lookup t side.member) (category_of side.category)
 
+-- the category is known, the member has terms for it, then what is asked of the clearing field
 abbrev pub side_questions : Agreed → ℕ → TradeSide → List Question
 side_questions t accounts side =
     ask (is_some (category_of side.category)) UnknownCategory

@@ -11,6 +11,7 @@ use Rattle.movement.specs.Agreed.{Agreed, member_known, with_terms}
 abbrev pub participant_known : ℕ → ℕ → Bool
 participant_known accounts a = nat_le 1 a && nat_lt a accounts
 
+-- the member is one, the category is known, both custodians are participants
 abbrev pub terms_questions : ℕ → Setting → List Question
 terms_questions accounts t =
     ask (member_known t.member) UnknownMember

@@ -1,5 +1,4 @@
 -- The state that a book is in, over any two registers.
-use Rattle.std.specs.Prelude.{vec_items}
 use Rattle.register.specs.Holdings.{Holdings}
 use Rattle.book.specs.declared.book.Book.{Book}
 use Rattle.book.specs.declared.daybook.Daybook.{Daybook}
@@ -15,7 +14,7 @@ daily_of d = record {
   half = d.half;
   highest = d.highest;
   terms = agreed d.terms;
-  movements = vec_items d.movements;
+  movements = d.movements.items;
 }
 
 abbrev pub state_of : {S C : Type 0} → (S → Holdings) → (C → Holdings) → Book S C → State

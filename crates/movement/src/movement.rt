@@ -2,7 +2,7 @@
 use crate::class::Class;
 use crate::party::Party;
 
-#[derive(Clone, Copy, PartialEq, Eq, Debug)]
+#[derive(Clone, Copy, PartialEq, Eq, Debug, Default)]
 pub struct Movement {
     pub number: u32,
     pub class: Class,

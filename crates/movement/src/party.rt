@@ -1,7 +1,7 @@
 // One side of a movement.
 
 // The seller or the buyer of a movement, by the accounts that act for it.
-#[derive(Clone, Copy, PartialEq, Eq, Debug)]
+#[derive(Clone, Copy, PartialEq, Eq, Debug, Default)]
 pub struct Party {
     // the custodians of securities and of cash
     pub securities: u8,

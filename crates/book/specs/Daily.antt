@@ -1,5 +1,5 @@
 -- What a book keeps of its day, its members and its movements.
-use Rattle.std.specs.Prelude.{ℕ, ◌+◌, Bool, true, false, cond, ◌&&◌, ◌||◌, List, [], ◌∷◌, ◌++◌, length, is_some, Some, None, Option, ◌==◌, nat_le, nat_lt, find, remove, slice_set}
+use Rattle.std.specs.Prelude.{ℕ, ◌+◌, Bool, true, false, not, ◌&&◌, ◌||◌, List, [], ◌∷◌, ◌++◌, length, is_some, Some, None, Option, ◌==◌, nat_le, nat_lt, find, remove, slice_set}
 use Rattle.std.specs.List.{position_or_len}
 use Rattle.std.specs.Option.{unwrap_or, option_map_or}
 use Rattle.fault.specs.declared.fault.Fault.TheVariants.{TradeNumber, UnknownClass, UnknownSecurity, QuantityRange, UnknownCurrency, TradeSum, SettlementDay, BookFull, NotOnBook, NoDuty, AlreadyConsented, CancelTooLate}
@@ -117,7 +117,7 @@ abbrev pub consented_to : Daily → ℕ → ℕ → Daily
 consented_to d n p = with_movements d d.highest (changed_at n (λ m. consented m p d.half) d.movements)
 
 abbrev pub is_morning : Half → Bool
-is_morning half = cond (is_afternoon half) false true
+is_morning half = not (is_afternoon half)
 
 -- today is before the day of settlement, or its morning
 abbrev pub cancellable : Daily → Movement → Bool

@@ -1,5 +1,5 @@
 -- What a book keeps of its day, its members and its movements.
-use Rattle.std.specs.Prelude.{ℕ, ◌+◌, Bool, true, false, not, ◌&&◌, ◌||◌, List, [], ◌∷◌, ◌++◌, length, is_some, Some, None, Option, ◌==◌, nat_le, nat_lt, find, remove, slice_set}
+use Rattle.std.specs.Prelude.{ℕ, ◌+◌, Bool, false, not, ◌&&◌, ◌||◌, List, [], ◌∷◌, ◌++◌, length, is_some, Some, None, Option, ◌==◌, nat_le, nat_lt, find, remove, slice_set}
 use Rattle.std.specs.List.{position_or_len}
 use Rattle.std.specs.Option.{unwrap_or, option_map_or}
 use Rattle.fault.specs.declared.fault.Fault.TheVariants.{TradeNumber, UnknownClass, UnknownSecurity, QuantityRange, UnknownCurrency, TradeSum, SettlementDay, BookFull, NotOnBook, NoDuty, AlreadyConsented, CancelTooLate}

@@ -7,9 +7,10 @@ ghost use Rattle.movement.specs.Letters.{class_of};
 use fault::Fault;
 
 /// How a trade was made.
-#[derive(Clone, Copy, PartialEq, Eq, Debug)]
+#[derive(Clone, Copy, PartialEq, Eq, Debug, Default)]
 pub enum Class {
     /// On the central market.
+    #[default]
     Central,
     /// Agreed directly.
     Direct,

@@ -3,7 +3,7 @@ use crate::class::Class;
 use crate::party::Party;
 
 /// What a trade becomes on the book: securities that its seller gives, and cash that its buyer pays for them.
-#[derive(Clone, Copy, PartialEq, Eq, Debug)]
+#[derive(Clone, Copy, PartialEq, Eq, Debug, Default)]
 pub struct Movement {
     pub number: u32,
     pub class: Class,

@@ -2,7 +2,7 @@
 
 /// The seller or the buyer of a movement, by the accounts that act for it.
 // Stays: the clearing field is taken apart when the movement is formed, into the two custodians and a mark, as was asked for.
-#[derive(Clone, Copy, PartialEq, Eq, Debug)]
+#[derive(Clone, Copy, PartialEq, Eq, Debug, Default)]
 pub struct Party {
     /// The custodian of securities.
     pub securities: u8,

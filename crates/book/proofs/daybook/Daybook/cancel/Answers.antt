@@ -1,4 +1,4 @@
-use Rattle.std.proofs.Common.{vec_items, ap, ◌∙◌, rules}
+use Rattle.std.proofs.Common.{ap, ◌∙◌}
 use Rattle.movement.specs.Bounds.{all_fit}
 use Rattle.movement.specs.Terms.{accounts_of}
 use Rattle.movement.proofs.Fitting.{fit_removed}
@@ -8,7 +8,6 @@ pub invariant_of-self : goal.invariant_of-self
 invariant_of-self c =
     let self = c.args.self.now in
     record {
-      few = search rules;
-      room = search rules;
-      bounds = ap (all_fit (accounts_of self.terms) self.kinds) c.remove.ensures.items ∙ fit_removed (accounts_of self.terms) self.kinds (vec_items self.movements) c.in-Some.i self.bounds;
+      bounds = ap (all_fit (accounts_of self.terms) self.kinds) c.remove.ensures.items
+          ∙ fit_removed (accounts_of self.terms) self.kinds self.movements.items c.in_ok-i.i self.bounds;
     }

@@ -1,4 +1,4 @@
-// Worked cases of the rules, and tests of many cases.
+//! Worked cases of the rules, and tests of many cases.
 #![tactic(auto)]
 
 ghost use Rattle.std.specs.Prelude.{◌≡◌, length};
@@ -9,8 +9,6 @@ mod building;
 #[cfg(test)]
 mod calls;
 #[cfg(test)]
-mod changes;
-#[cfg(test)]
 mod edges;
 #[cfg(test)]
 mod lives;
@@ -19,7 +17,7 @@ mod openings;
 #[cfg(test)]
 mod order;
 
-// How many cases are worked.
+/// How many cases are worked.
 pub fn worked_cases() -> usize
     ensures right { WorkedCases }
     ensures count { result ≡ length table }

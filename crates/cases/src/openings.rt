@@ -1,4 +1,4 @@
-// Openings that pass and openings that fail.
+//! Openings that pass and openings that fail.
 use crate::building::{Depository, compare, expect, table};
 use crate::calls::{shares, terms, trade};
 use book::Book;

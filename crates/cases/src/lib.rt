@@ -16,6 +16,10 @@ mod lives;
 mod openings;
 #[cfg(test)]
 mod order;
+#[cfg(test)]
+mod registers;
+#[cfg(test)]
+mod runs;
 
 /// How many cases are worked.
 pub fn worked_cases() -> usize

@@ -9,7 +9,7 @@ use crate::book::Book;
 use crate::paying::{deposit, inquire, withdraw};
 use crate::place::Place;
 use fault::Fault;
-use movement::{Setting, Trade};
+use movement::{Setting, Side, Trade};
 use register::Register;
 
 pub trait Settlement {
@@ -50,19 +50,17 @@ impl<S: Register, C: Register> Settlement for Book<S, C> {
 
     fn pay_in(&mut self, place: Place, amount: u64) -> Result<(), Fault> {
         self.passed()?;
-        match place.side {
-            0 => deposit(&mut self.securities, place, amount),
-            1 => deposit(&mut self.cash, place, amount),
-            _ => Err(Fault::UnknownSide),
+        match Side::try_from(place.side)? {
+            Side::Securities => deposit(&mut self.securities, place, amount),
+            Side::Cash => deposit(&mut self.cash, place, amount),
         }
     }
 
     fn pay_out(&mut self, place: Place, amount: u64) -> Result<(), Fault> {
         self.passed()?;
-        match place.side {
-            0 => withdraw(&mut self.securities, place, amount),
-            1 => withdraw(&mut self.cash, place, amount),
-            _ => Err(Fault::UnknownSide),
+        match Side::try_from(place.side)? {
+            Side::Securities => withdraw(&mut self.securities, place, amount),
+            Side::Cash => withdraw(&mut self.cash, place, amount),
         }
     }
 
@@ -88,10 +86,9 @@ impl<S: Register, C: Register> Settlement for Book<S, C> {
 
     fn tell(&self, place: Place) -> Result<u64, Fault> {
         self.passed()?;
-        match place.side {
-            0 => inquire(&self.securities, place),
-            1 => inquire(&self.cash, place),
-            _ => Err(Fault::UnknownSide),
+        match Side::try_from(place.side)? {
+            Side::Securities => inquire(&self.securities, place),
+            Side::Cash => inquire(&self.cash, place),
         }
     }
 }

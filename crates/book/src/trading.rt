@@ -1,12 +1,13 @@
 // Terms, trades, consent and cancel.
-ghost use Rattle.std.specs.Prelude.{◌≡◌, ◌<◌, true, is_ok, None, vec_len, MatchOption};
+ghost use Rattle.std.specs.Prelude.{◌≡◌, ◌<◌, true, is_ok, None, position, MatchOption};
+ghost use Rattle.arrayvec.specs.ArrayVec.{array_vec_len};
 ghost use Rattle.fault.specs.Questions.{asked};
 ghost use Rattle.book.specs.Books.{daily_of};
-ghost use Rattle.book.specs.Daily.{basic_questions, cancellable, class_known, on_book, trade_questions, traded};
+ghost use Rattle.book.specs.Daily.{basic_questions, cancellable, class_known, has_number, on_book, trade_questions, traded};
 ghost use Rattle.book.specs.Found.{FoundAt};
 ghost use Rattle.book.specs.Trading.{AgreedTo, Cancelled, ConsentedTo, Entered};
 
-use crate::daybook::{Daybook, MOST_MOVEMENTS};
+use crate::daybook::{Daybook, MAX_MOVEMENTS};
 use fault::Fault;
 use movement::{Class, Half, Movement, Setting, Trade, form};
 
@@ -56,11 +57,11 @@ impl Daybook {
     // Asks every question of a trade, and answers the movement that it forms.
     fn formed(&self, trade: Trade) -> Result<Movement, Fault>
         ensures formed { result ≡ asked (trade_questions (daily_of self.now) trade) (traded (daily_of self.now) trade) }
-        ensures room { is_ok result ≡ true → vec_len self.now.movements < 128 }
+        ensures room { is_ok result ≡ true → array_vec_len self.now.movements < 128 }
     {
         let class = self.class_of(trade)?;
         let movement = form(&self.terms, self.accounts, class, trade)?;
-        if self.movements.len() >= MOST_MOVEMENTS {
+        if self.movements.len() >= MAX_MOVEMENTS {
             return Err(Fault::BookFull);
         }
         Ok(movement)
@@ -72,29 +73,24 @@ impl Daybook {
     {
         let movement = self.formed(trade)?;
         self.highest = trade.number;
-        self.movements.push_reserved(movement);
+        self.movements.push(movement);
         Ok(())
     }
 
-    // Where the movement of a number stands.
+    /// Where the movement of a number stands.
     fn find(&self, number: u32) -> Option<usize>
-        ensures { MatchOption result (on_book number self.now.movements.items ≡ None) (FoundAt self.now.movements.items number) }
+        ensures place { result ≡ position (has_number number) self.now.movements.items }
+        ensures found { MatchOption result (on_book number self.now.movements.items ≡ None)
+            (FoundAt self.now.movements.items number) }
     {
-        for (i, movement) in self.movements.iter().enumerate() {
-            if movement.number == number {
-                return Some(i);
-            }
-        }
-        None
+        self.movements.iter().position(|m| m.number == number)
     }
 
     // Takes a participant's consent to every duty that it has in a movement.
     pub(crate) fn consent(&mut self, number: u32, participant: u8) -> Result<(), Fault>
         ensures { ConsentedTo (daily_of self.old) number participant result (daily_of self.new) }
     {
-        let Some(i) = self.find(number) else {
-            return Err(Fault::NotOnBook);
-        };
+        let i = self.find(number).ok_or(Fault::NotOnBook)?;
         let movement = self.movements[i];
         if !movement.has_duty(participant) {
             return Err(Fault::NoDuty);
@@ -121,9 +117,7 @@ impl Daybook {
     pub(crate) fn cancel(&mut self, number: u32) -> Result<(), Fault>
         ensures { Cancelled (daily_of self.old) number result (daily_of self.new) }
     {
-        let Some(i) = self.find(number) else {
-            return Err(Fault::NotOnBook);
-        };
+        let i = self.find(number).ok_or(Fault::NotOnBook)?;
         if !self.is_cancellable(self.movements[i]) {
             return Err(Fault::CancelTooLate);
         }

@@ -10,11 +10,11 @@ use std::test::Fail;
 #[derive(Clone, Copy)]
 struct Opening(u8, u8, i64, u32);
 
-fn opened(heap: Global, opening: Opening) -> Result<Depository, AllocError> {
+fn opened(alloc: Global, opening: Opening) -> Result<Depository, AllocError> {
     let Opening(accounts, kinds, amount, day) = opening;
-    let securities = table(heap, kinds, accounts, amount)?;
-    let cash = table(heap, 2, accounts, amount)?;
-    Book::open(heap, securities, cash, day)
+    let securities = table(alloc, kinds, accounts, amount)?;
+    let cash = table(alloc, 2, accounts, amount)?;
+    Ok(Book::open(securities, cash, day))
 }
 
 // 32 times as much is 10^15.

@@ -10,12 +10,12 @@ const MOST: u64 = 1_000_000_000_000;
 
 #[test]
 fn a_book_gives_its_registers_back(rt: HostRuntime) -> Result<(), Fail> {
-    let heap = rt.alloc();
+    let alloc = rt.alloc();
     // two securities on three accounts, and a row that is left over
-    let rows = vec![in heap; -5, 3, 8, 0, 0, 1_000_000_000_000_007, 9]?;
+    let rows = vec![in alloc; -5, 3, 8, 0, 0, 1_000_000_000_000_007, 9]?;
     let securities = Table::new(rows, 2);
-    let cash = Table::new(vec![in heap; 0, 1, 0, 0, 0, 6]?, 2);
-    let mut book = Book::open(heap, securities, cash, 0)?;
+    let cash = Table::new(vec![in alloc; 0, 1, 0, 0, 0, 6]?, 2);
+    let mut book = Book::open(securities, cash, 0);
     let cases = [
         (Call::PayIn(shares(0, 1), 2), 0),
         (Call::PayOut(shares(0, 2), 9), 15),
@@ -44,14 +44,14 @@ fn columns(credits: u64, debits: u64) -> Columns {
 
 #[test]
 fn a_book_keeps_joined_registers(rt: HostRuntime) -> Result<(), Fail> {
-    let heap = rt.alloc();
+    let alloc = rt.alloc();
     // one security in a table of four accounts, two in a turnover register of three: three securities on three accounts
-    let table = Table::new(vec![in heap; 0, 9, 0, 77]?, 1);
-    let turnover = Turnover::new(vec![in heap; columns(9, 5); 6]?, 2);
-    let litas = Turnover::new(vec![in heap; columns(9, 5); 3]?, 1);
-    let euro = Table::new(vec![in heap; 0, 0, 2]?, 1);
+    let table = Table::new(vec![in alloc; 0, 9, 0, 77]?, 1);
+    let turnover = Turnover::new(vec![in alloc; columns(9, 5); 6]?, 2);
+    let litas = Turnover::new(vec![in alloc; columns(9, 5); 3]?, 1);
+    let euro = Table::new(vec![in alloc; 0, 0, 2]?, 1);
     let securities = Joined::new(table, turnover);
-    let mut book = Book::open(heap, securities, Joined::new(litas, euro), 0)?;
+    let mut book = Book::open(securities, Joined::new(litas, euro), 0);
     let cases = [
         (Call::Tell(shares(3, 0)), 11),
         (Call::Tell(shares(0, 3)), 12),

@@ -9,9 +9,9 @@ use std::alloc::{AllocError, Global};
 use std::test::Fail;
 
 // Two securities and two currencies on three accounts.
-fn registers(heap: Global) -> Result<(Table, Table), AllocError> {
-    let securities = Table::new(vec![in heap; 100, 5, 0, 0, 0, 7]?, 2);
-    let cash = Table::new(vec![in heap; 0, 0, 40, 0, 0, 0]?, 2);
+fn registers(alloc: Global) -> Result<(Table, Table), AllocError> {
+    let securities = Table::new(vec![in alloc; 100, 5, 0, 0, 0, 7]?, 2);
+    let cash = Table::new(vec![in alloc; 0, 0, 40, 0, 0, 0]?, 2);
     Ok((securities, cash))
 }
 
@@ -58,13 +58,13 @@ fn compare_left(rt: &HostRuntime, mut book: Depository) -> Result<(), Fail> {
 
 #[test]
 fn a_run_is_its_calls_one_by_one(rt: HostRuntime) -> Result<(), Fail> {
-    let heap = rt.alloc();
+    let alloc = rt.alloc();
     let cases = calls_and_answers();
     let calls = cases.map(|(call, _)| call);
-    let (securities, cash) = registers(heap)?;
-    let finished = run(heap, securities, cash, 10, &calls)?;
-    let (securities, cash) = registers(heap)?;
-    let mut book = Book::open(heap, securities, cash, 10)?;
+    let (securities, cash) = registers(alloc)?;
+    let finished = run(alloc, securities, cash, 10, &calls)?;
+    let (securities, cash) = registers(alloc)?;
+    let mut book = Book::open(securities, cash, 10);
     for ((call, expected), answered) in cases.iter().zip(finished.answers.iter()) {
         let performed = perform(&mut book, *call);
         assert_eq!(rt; (performed, *answered), (*expected, *expected));
@@ -76,10 +76,10 @@ fn a_run_is_its_calls_one_by_one(rt: HostRuntime) -> Result<(), Fail> {
 
 #[test]
 fn a_run_on_a_failed_opening_answers_every_call_by_its_number(rt: HostRuntime) -> Result<(), Fail> {
-    let heap = rt.alloc();
-    let (securities, cash) = registers(heap)?;
+    let alloc = rt.alloc();
+    let (securities, cash) = registers(alloc)?;
     let calls = [Call::Tell(shares(0, 1)), Call::Cancel(1)];
-    let finished = run(heap, securities, cash, 60_001, &calls)?;
+    let finished = run(alloc, securities, cash, 60_001, &calls)?;
     assert_eq!(rt;
         finished.answers.as_slice(),
         [Err(Fault::FirstDay), Err(Fault::FirstDay)].as_slice()

@@ -1,6 +1,6 @@
 //! A small depository: two securities, two currencies, its own account and three participants'.
 use book::Book;
-use register::{Columns, Joined, Table, Turnover};
+use register::{Joined, Table, Turnover};
 use std::alloc::{AllocError, Global};
 
 const ACCOUNTS: usize = 4;
@@ -11,13 +11,9 @@ const SECURITIES: usize = 2;
 pub type Depository = Book<Table, Joined<Table, Turnover>>;
 
 /// Opens on day 0, everything 0.
-pub fn open(heap: Global) -> Result<Depository, AllocError> {
-    let securities = Table::new(vec![in heap; 0i64; 8]?, SECURITIES);
-    let litas = Table::new(vec![in heap; 0i64; ACCOUNTS]?, 1);
-    let nothing = Columns {
-        credits: 0,
-        debits: 0,
-    };
-    let euro = Turnover::new(vec![in heap; nothing; ACCOUNTS]?, 1);
-    Book::open(heap, securities, Joined::new(litas, euro), 0)
+pub fn open(alloc: Global) -> Result<Depository, AllocError> {
+    let securities = Table::zeroed(alloc, SECURITIES, ACCOUNTS)?;
+    let litas = Table::zeroed(alloc, 1, ACCOUNTS)?;
+    let euro = Turnover::zeroed(alloc, 1, ACCOUNTS)?;
+    Ok(Book::open(securities, Joined::new(litas, euro), 0))
 }

@@ -27,9 +27,9 @@ pub struct Statement {
 
 impl Statement {
     /// Nothing is booked yet.
-    pub fn new(heap: Global) -> Statement {
+    pub fn new(alloc: Global) -> Statement {
         Statement {
-            entries: Vec::new(heap),
+            entries: Vec::new(alloc),
         }
     }
 

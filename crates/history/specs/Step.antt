@@ -1,5 +1,5 @@
 -- One call by the rules: what is asked, what is answered, and the state after it.
-use Rattle.std.specs.Prelude.{◌≡◌, cond, List, is_ok, Result}
+use Rattle.std.specs.Prelude.{◌≡◌, if◌then◌else◌, List, is_ok, Result}
 use Rattle.fault.specs.declared.fault.Fault.{Fault}
 use Rattle.movement.specs.Settings.{terms_questions}
 use Rattle.book.specs.Daily.{trade_questions, consent_questions, cancel_questions, agreed_to, entered, consented_to, cancelled}
@@ -47,7 +47,7 @@ answer s c = answer_to s (questions s c) (result s c)
 
 -- the state after a call
 abbrev pub after : State → Call → State
-after s c = cond (is_ok (answer s c)) (effect s c) s
+after s c = if is_ok (answer s c) then effect s c else s
 
 -- answered by the rules
 pub record Stepped (s : State) (c : Call) (r : Result Answer Fault) (t : State) : Type 0 where

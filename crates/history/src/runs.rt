@@ -28,7 +28,7 @@ pub fn run<S: Register, C: Register>(
 ) -> Result<Finished<S, C>, AllocError>
     ensures { IfOk result (λ f. Ran (opens_on (S.Register.shows securities) (C.Register.shows cash) first_day) calls.now f.answers.items (state_of S.Register.shows C.Register.shows f.book)) }
 {
-    let mut book = Book::open(heap, securities, cash, first_day)?;
+    let mut book = Book::open(securities, cash, first_day);
     let mut answers = Vec::with_capacity(heap, calls.len())?;
     for call in calls {
         answers.push_reserved(perform(&mut book, *call));

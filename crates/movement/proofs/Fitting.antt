@@ -1,22 +1,19 @@
 -- Terms and movements stay within their bounds.
-use Rattle.std.proofs.Common.{◌≡◌, ℕ, zero, suc, ◌<◌, true, false, cond, ◌&&◌, ◌||◌, eqb, List, [], ◌∷◌, ◌++◌, length, get_or, set, is_some, is_ok, Some, None, Ok, Option, Result, sym, refl, ap, ◌∙◌, ⊎_elim, arith}
+use Rattle.std.proofs.Common.{◌≡◌, ℕ, zero, suc, ◌<◌, true, false, ◌&&◌, ◌||◌, List, [], ◌∷◌, ◌++◌, length, get_or, set, is_some, Some, None, Option, sym, refl, ap, ◌∙◌, ⊎_elim, arith}
 use Rattle.std.proofs.lemmas.Bool.{and_parts, and_from, cases_Bool, cond-true, cond-false, cond_both, false≢true}
 use Rattle.std.specs.List.{remove}
 use Rattle.std.specs.Option.{option_or}
-use Rattle.fault.specs.declared.fault.Fault.{Fault}
-use Rattle.register.specs.Answers.{Changed}
-use Rattle.fault.specs.Questions.{first_no, passes, unless}
+use Rattle.fault.specs.Questions.{first_no}
 use Rattle.fault.proofs.Asking.{all_hold}
 use Rattle.movement.specs.declared.category.Category.{Category}
 use Rattle.movement.specs.declared.category.Category.TheVariants.{Main}
 use Rattle.movement.specs.declared.movement.Movement.{Movement}
-use Rattle.movement.specs.declared.terms.Setting.{Setting}
 use Rattle.movement.specs.declared.trade.TradeSide.{TradeSide}
-use Rattle.movement.specs.Agreed.{Agreed, lookup, member_known, with_terms}
-use Rattle.movement.specs.Letters.{category_of, row}
+use Rattle.movement.specs.Agreed.{Agreed, lookup, member_known}
+use Rattle.movement.specs.Letters.{category_of}
 use Rattle.movement.specs.Clearing.{blank, digits, one_off_of}
 use Rattle.movement.specs.Forming.{lookup_known, standard_pair, side_questions, formed, formed_known, party_of}
-use Rattle.movement.specs.Settings.{terms_questions, terms_after, with_category, participant_known}
+use Rattle.movement.specs.Settings.{participant_known}
 use Rattle.movement.specs.Bounds.{pair_fits, agreed_fits, TermsFit, party_fits, movement_fits, all_fit}
 
 some_injective : {A : Type 0} {x y : A} → Some x ≡ Some y → x ≡ y
@@ -25,21 +22,8 @@ some_injective {A} {x} {y} e = cc
 none_is_not_some : {A : Type 0} {x : A} → ◌≡◌ {A = Option A} None (Some x) → ⊥
 none_is_not_some {A} {x} e = let z : ◌≡◌ {A = ℕ} 0 1 = cc in omega arith
 
--- one category set to participants
-with_fit : (accounts : ℕ) (t : Agreed) (m : ℕ) (c : Category) (pair : ℕ × ℕ) → TermsFit accounts t → pair_fits accounts pair ≡ true → TermsFit accounts (with_terms t m c pair)
-with_fit accounts t m c pair before fits n d =
-    cond_both (eqb n m && eqb (row d) (row c)) (Some pair) (t n d) (λ o. agreed_fits accounts o ≡ true) (λ q. fits) (λ q. before n d)
-
-pub after_fit : (accounts : ℕ) (t : Agreed) (x : Setting) → TermsFit accounts t → first_no (terms_questions accounts x) ≡ None → TermsFit accounts (terms_after t x)
-after_fit accounts t x before passed =
-    by_category (category_of x.category)
-  where
-    by_category : (o : Option Category) → TermsFit accounts (with_category t x o)
-    by_category (Some c) = with_fit accounts t x.member c (x.securities, x.cash) before (all_hold (terms_questions accounts x) passed).1.1.0
-    by_category None = before
-
 -- what the lookup answers
-lookup_fits : (accounts : ℕ) (t : Agreed) (m : ℕ) (c : Category) → TermsFit accounts t → agreed_fits accounts (lookup t m c) ≡ true
+pub lookup_fits : (accounts : ℕ) (t : Agreed) (m : ℕ) (c : Category) → TermsFit accounts t → agreed_fits accounts (lookup t m c) ≡ true
 lookup_fits accounts t m c fit =
     cond_both (member_known m) (option_or (t m c) (t m Main)) None (λ o. agreed_fits accounts o ≡ true) (λ q. by_category (t m c) (fit m c)) (λ q. refl)
   where
@@ -106,12 +90,3 @@ module _ (accounts kinds : ℕ) where
   fit_removed (x ∷ ms) (suc i) all =
       let parts = and_parts (movement_fits accounts kinds x) (all_fit accounts kinds ms) all in
       and_from (movement_fits accounts kinds x) (all_fit accounts kinds (remove ms i)) parts.0 (fit_removed ms i parts.1)
-
--- terms that were set, or refused
-pub changed_fit : (accounts : ℕ) (t : Agreed) (x : Setting) {r : Result Unit Fault} {u : Agreed} → TermsFit accounts t → Changed t (passes (terms_questions accounts x)) (terms_after t x) r u → TermsFit accounts u
-changed_fit accounts t x {r} {u} fit change =
-    by_question (first_no (terms_questions accounts x)) refl change.after
-  where
-    by_question : (o : Option Fault) → first_no (terms_questions accounts x) ≡ o → u ≡ cond (is_ok (unless {A = Unit {0}} o (Ok tt))) (terms_after t x) t → TermsFit accounts u
-    by_question None e after = rw after (after_fit accounts t x fit e)
-    by_question (Some f) e after = rw after fit

@@ -3,6 +3,7 @@ use Rattle.std.specs.Prelude.{ℕ, Bool, cond, ◌&&◌, Some, None, Option, ◌
 use Rattle.std.specs.Option.{option_or}
 use Rattle.movement.specs.declared.category.Category.{Category}
 use Rattle.movement.specs.declared.category.Category.TheVariants.{Main}
+use Rattle.movement.specs.declared.limits.TheConstants.{MEMBERS}
 use Rattle.movement.specs.Letters.{row}
 
 abbrev pub Agreed : Type 0
@@ -12,9 +13,9 @@ Agreed = ℕ → Category → Option (ℕ × ℕ)
 abbrev pub none_agreed : Agreed
 none_agreed m c = None
 
--- members are numbered from 1 to 16
+-- members are numbered from 1
 abbrev pub member_known : ℕ → Bool
-member_known m = nat_le 1 m && nat_le m 16
+member_known m = nat_le 1 m && nat_le m MEMBERS
 
 -- one category of one member set
 abbrev pub with_terms : Agreed → ℕ → Category → (ℕ × ℕ) → Agreed

@@ -1,14 +1,15 @@
 -- Within which bounds the numbers of terms and movements lie, for a book of so many accounts and securities.
 use Rattle.std.specs.Prelude.{◌≡◌, ℕ, Bool, true, ◌&&◌, List, [], ◌∷◌, Some, None, Option, nat_le, nat_lt}
 use Rattle.movement.specs.declared.category.Category.{Category}
+use Rattle.movement.specs.declared.limits.TheConstants.{MAX_MOVED}
 use Rattle.movement.specs.declared.movement.Movement.{Movement}
 use Rattle.movement.specs.declared.party.Party.{Party}
 use Rattle.movement.specs.Agreed.{Agreed}
 use Rattle.movement.specs.Settings.{participant_known}
 
--- the largest quantity and sum of a trade: 10^12
+-- the largest quantity and sum of a trade
 abbrev pub most_traded : ℕ
-most_traded = 1000000000000
+most_traded = MAX_MOVED
 
 abbrev pub from_one_to : ℕ → ℕ → Bool
 from_one_to most n = nat_le 1 n && nat_le n most

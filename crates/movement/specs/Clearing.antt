@@ -1,5 +1,6 @@
 -- The clearing field: four characters.
 use Rattle.std.specs.Prelude.{ℕ, ◌+◌, ◌-◌, ◌*◌, Bool, cond, ◌&&◌, ◌||◌, List, [], ◌∷◌, Some, None, Option, ◌==◌, nat_le, nat_lt, slice_index}
+use Rattle.std.specs.Char.{is_ascii_digit}
 use Rattle.fault.specs.declared.fault.Fault.TheVariants.{ClearingField, ClearingLetter, ClearingParticipant}
 use Rattle.fault.specs.Questions.{Question, ask}
 
@@ -10,14 +11,11 @@ character f i = slice_index f i
 abbrev pub blank : List ℕ → Bool
 blank f = character f 0 == 32 && (character f 1 == 32 && (character f 2 == 32 && character f 3 == 32))
 
-abbrev pub is_digit : ℕ → Bool
-is_digit c = nat_le 48 c && nat_le c 57
-
 -- a letter V, R or T and three digits
 abbrev pub shaped : List ℕ → Bool
 shaped f =
     (character f 0 == 86 || (character f 0 == 82 || character f 0 == 84))
-    && (is_digit (character f 1) && (is_digit (character f 2) && is_digit (character f 3)))
+    && (is_ascii_digit (character f 1) && (is_ascii_digit (character f 2) && is_ascii_digit (character f 3)))
 
 -- the number that the digits write
 abbrev pub digits : List ℕ → ℕ

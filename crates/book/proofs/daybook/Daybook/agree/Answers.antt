@@ -6,8 +6,6 @@ pub invariant_of-self : goal.invariant_of-self
 invariant_of-self c =
     let self = c.args.self.now in
     record {
-      few = self.few;
-      room = self.room;
       agreements = changed_fit self.accounts (agreed self.terms) c.args.setting self.agreements c.agree.ensures;
       bounds = self.bounds;
     }

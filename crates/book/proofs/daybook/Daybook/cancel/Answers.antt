@@ -1,4 +1,4 @@
-use Rattle.std.proofs.Common.{vec_items, ap, ◌∙◌, rules}
+use Rattle.std.proofs.Common.{ap, ◌∙◌}
 use Rattle.movement.specs.Bounds.{all_fit}
 use Rattle.movement.proofs.Fitting.{fit_removed}
 use Rattle.book.proofs.daybook.Daybook.cancel.Goals as goal
@@ -7,8 +7,6 @@ pub invariant_of-self : goal.invariant_of-self
 invariant_of-self c =
     let self = c.args.self.now in
     record {
-      few = search rules;
-      room = search rules;
       agreements = self.agreements;
-      bounds = ap (all_fit self.accounts self.kinds) c.remove.ensures.items ∙ fit_removed self.accounts self.kinds (vec_items self.movements) c.in-Some.i self.bounds;
+      bounds = ap (all_fit self.accounts self.kinds) c.remove.ensures.items ∙ fit_removed self.accounts self.kinds self.movements.items c.in_ok-i.i self.bounds;
     }

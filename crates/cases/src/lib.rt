@@ -6,6 +6,7 @@ ghost use Rattle.cases.specs.Worked.{WorkedCases, table};
 
 #[cfg(test)]
 mod building;
+pub mod caller;
 #[cfg(test)]
 mod calls;
 #[cfg(test)]

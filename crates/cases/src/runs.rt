@@ -36,8 +36,8 @@ fn calls_and_answers() -> [(Call, Result<Answer, Fault>); 15] {
     ]
 }
 
-// What is left: movement 1 is cancelled, movement 2 is on the book without consents, 2 is the highest number.
-fn compare_left(rt: &HostRuntime, mut book: Depository) -> Result<(), Fail> {
+// What is left: movement 1 is cancelled, movement 2 is on the book without consents, 2 is the highest number. The rows of both registers.
+fn rows_left(mut book: Depository) -> Result<(Vec<i64>, Vec<i64>), Fail> {
     let cases = [
         (Call::Consent(1, 1), 50),
         (Call::Consent(2, 1), 0),
@@ -48,12 +48,7 @@ fn compare_left(rt: &HostRuntime, mut book: Depository) -> Result<(), Fail> {
     ];
     compare(&mut book, &cases)?;
     let (securities, cash) = book.into_registers();
-    assert_eq!(rt;
-        securities.into_rows().as_slice(),
-        [100, 11, 0, 0, 0, 0].as_slice()
-    );
-    assert_eq!(rt; cash.into_rows().as_slice(), [0, 0, 39, 0, 0, 0].as_slice());
-    Ok(())
+    Ok((securities.into_rows(), cash.into_rows()))
 }
 
 #[test]
@@ -70,8 +65,12 @@ fn a_run_is_its_calls_one_by_one(rt: HostRuntime) -> Result<(), Fail> {
         assert_eq!(rt; (performed, *answered), (*expected, *expected));
     }
     assert_eq!(rt; finished.answers.len(), cases.len());
-    compare_left(&rt, finished.book)?;
-    compare_left(&rt, book)
+    let (securities, cash) = rows_left(finished.book)?;
+    assert_eq!(rt; securities.as_slice(), [100, 11, 0, 0, 0, 0].as_slice());
+    assert_eq!(rt; cash.as_slice(), [0, 0, 39, 0, 0, 0].as_slice());
+    let performed = rows_left(book)?;
+    assert_eq!(rt; performed, (securities, cash));
+    Ok(())
 }
 
 #[test]

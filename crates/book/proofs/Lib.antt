@@ -1,5 +1,5 @@
 pub mod Totals
 pub mod Payments
-pub mod Asking
+pub mod Openings
 pub mod Trades
 pub mod Finding

@@ -1,8 +1,9 @@
-// A book over a securities register and a cash register.
+//! A book over a securities register and a cash register.
 use crate::daybook::Daybook;
 use fault::Fault;
 use register::Register;
 
+/// A book: what it keeps of its day, and the registers of its two sides.
 #[derive(Drop)]
 pub struct Book<S: Register, C: Register> {
     // the opening question that failed, if one did

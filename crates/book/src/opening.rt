@@ -1,71 +1,44 @@
 //! Opening a book, and giving its registers back.
-ghost use Rattle.std.specs.Prelude.{◌≡◌, ◌<◌, None, Ok};
-ghost use Rattle.book.specs.Books.{daily_of, state_of};
-ghost use Rattle.book.specs.Opening.{failed_question, morning, noted as noted_number, opened, opens_on};
-ghost use Rattle.fault.specs.Questions.{unless};
+ghost use Rattle.std.specs.Prelude.{◌≡◌, Ok};
+ghost use Rattle.book.specs.Books.{state_of};
+ghost use Rattle.book.specs.Opening.{opened, opening_questions, opens_on, sizes_of};
+ghost use Rattle.fault.specs.Questions.{asked, unless};
 
 use crate::book::Book;
 use crate::daybook::Daybook;
 use crate::sums::within_limit;
-use arrayvec::ArrayVec;
-use fault::Fault;
-use movement::{Half, Terms};
+use fault::{Fault, ask};
+use movement::{CURRENCIES, MAX_ACCOUNTS, MAX_SECURITIES};
 use register::Register;
 
 /// The last day on which a book can open.
-const LAST_DAY: u32 = 60_000;
+pub const LAST_DAY: u32 = 60_000;
 
-/// The first question of the opening that fails.
-fn failed_question<S: Register, C: Register>(
+/// Asks what is asked of an opening, and answers the numbers of accounts and of securities.
+fn sizes<S: Register, C: Register>(
     securities: &S,
     cash: &C,
     first_day: u32,
-) -> Option<Fault>
-    ensures { result ≡ failed_question (opens_on (S.Register.shows securities.now) (C.Register.shows cash.now) first_day) }
+) -> Result<(u8, u8), Fault>
+    ensures { let o = opens_on (S.Register.shows securities.now) (C.Register.shows cash.now) first_day in
+        result ≡ asked (opening_questions o) (sizes_of o) }
 {
     let accounts = securities.accounts();
-    if accounts != cash.accounts() || accounts < 2 || accounts > 32 {
-        return Some(Fault::AccountCount);
-    }
+    ask(
+        accounts == cash.accounts() && accounts >= 2 && accounts <= MAX_ACCOUNTS,
+        Fault::AccountCount,
+    )?;
     let kinds = securities.kinds();
-    if kinds < 1 || kinds > 16 || cash.kinds() != 2 {
-        return Some(Fault::KindCount);
-    }
-    if !within_limit(securities) || !within_limit(cash) {
-        return Some(Fault::OpeningSum);
-    }
-    if first_day > LAST_DAY {
-        return Some(Fault::FirstDay);
-    }
-    None
-}
-
-impl Daybook {
-    /// The first morning of a book.
-    fn new(accounts: u8, kinds: u8, day: u32) -> Daybook
-        ensures { daily_of result ≡ morning accounts kinds day }
-    {
-        Daybook {
-            accounts,
-            kinds,
-            day,
-            half: Half::Morning,
-            highest: 0,
-            terms: Terms::new(),
-            movements: ArrayVec::new(),
-        }
-    }
-}
-
-/// A number that is noted where the opening passed, 0 where it failed.
-fn noted(failed: Option<Fault>, number: usize) -> u8
-    requires { failed ≡ None → number < 256 }
-    ensures { result ≡ noted_number failed number }
-{
-    match failed {
-        None => number as u8,
-        Some(_) => 0,
-    }
+    ask(
+        kinds >= 1 && kinds <= MAX_SECURITIES && cash.kinds() == CURRENCIES,
+        Fault::KindCount,
+    )?;
+    ask(
+        within_limit(securities) && within_limit(cash),
+        Fault::OpeningSum,
+    )?;
+    ask(first_day <= LAST_DAY, Fault::FirstDay)?;
+    Ok((accounts as u8, kinds as u8))
 }
 
 impl<S: Register, C: Register> Book<S, C> {
@@ -75,11 +48,10 @@ impl<S: Register, C: Register> Book<S, C> {
         ensures { state_of S.Register.shows C.Register.shows result
             ≡ opened (opens_on (S.Register.shows securities) (C.Register.shows cash) first_day) }
     {
-        let failed = failed_question(&securities, &cash, first_day);
-        let accounts = noted(failed, securities.accounts());
-        let kinds = noted(failed, securities.kinds());
+        let sizes = sizes(&securities, &cash, first_day);
+        let (accounts, kinds) = sizes.unwrap_or((0, 0));
         Book {
-            failed,
+            failed: sizes.err(),
             daybook: Daybook::new(accounts, kinds, first_day),
             securities,
             cash,

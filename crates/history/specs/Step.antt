@@ -6,15 +6,16 @@ use Rattle.book.specs.Daily.{trade_questions, consent_questions, cancel_question
 use Rattle.book.specs.State.{State, with_daily}
 use Rattle.fault.specs.Questions.{Question}
 use Rattle.book.specs.Questions.{answer_to}
-use Rattle.book.specs.Paying.{pay_in_questions, pay_out_questions, tell_questions, paid_in, paid_out, amount_at}
+use Rattle.book.specs.Paying.{pay_questions, tell_questions, with_payment, amount_at}
+use Rattle.register.specs.declared.entry.Entry.TheVariants.{Put, Take}
 use Rattle.history.specs.declared.call.Call.{Call}
 use Rattle.history.specs.declared.call.Call.TheVariants.{PayIn, PayOut, Terms, Trade, Consent, Cancel, Tell}
 use Rattle.history.specs.declared.call.Answer.{Answer}
 use Rattle.history.specs.declared.call.Answer.TheVariants.{Done, Amount}
 
 abbrev pub questions : State → Call → List Question
-questions s (PayIn p n) = pay_in_questions s p n
-questions s (PayOut p n) = pay_out_questions s p n
+questions s (PayIn p n) = pay_questions s p (Put n)
+questions s (PayOut p n) = pay_questions s p (Take n)
 questions s (Terms t) = terms_questions s.daily.accounts t
 questions s (Trade t) = trade_questions s.daily t
 questions s (Consent n p) = consent_questions s.daily n p
@@ -33,8 +34,8 @@ result s (Tell p) = Amount (amount_at s p)
 
 -- the state after an accepted call
 abbrev pub effect : State → Call → State
-effect s (PayIn p n) = paid_in s p n
-effect s (PayOut p n) = paid_out s p n
+effect s (PayIn p n) = with_payment s p (Put n)
+effect s (PayOut p n) = with_payment s p (Take n)
 effect s (Terms t) = with_daily s (agreed_to s.daily t)
 effect s (Trade t) = with_daily s (entered s.daily t)
 effect s (Consent n p) = with_daily s (consented_to s.daily n p)

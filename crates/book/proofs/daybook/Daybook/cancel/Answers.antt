@@ -1,5 +1,6 @@
 use Rattle.std.proofs.Common.{ap, ◌∙◌}
 use Rattle.movement.specs.Bounds.{all_fit}
+use Rattle.movement.specs.Terms.{accounts_of}
 use Rattle.movement.proofs.Fitting.{fit_removed}
 use Rattle.book.proofs.daybook.Daybook.cancel.Goals as goal
 
@@ -7,6 +8,6 @@ pub invariant_of-self : goal.invariant_of-self
 invariant_of-self c =
     let self = c.args.self.now in
     record {
-      agreements = self.agreements;
-      bounds = ap (all_fit self.accounts self.kinds) c.remove.ensures.items ∙ fit_removed self.accounts self.kinds self.movements.items c.in_ok-i.i self.bounds;
+      bounds = ap (all_fit (accounts_of self.terms) self.kinds) c.remove.ensures.items
+          ∙ fit_removed (accounts_of self.terms) self.kinds self.movements.items c.in_ok-i.i self.bounds;
     }

@@ -81,3 +81,15 @@ pub fn open_and_sell(alloc: Global) -> Result<Result<u64, Fault>, AllocError>
     let mut book = open(alloc)?;
     Ok(sell(&mut book))
 }
+
+#[cfg(test)]
+mod tests {
+    use super::*;
+    use std::test::Fail;
+
+    #[test]
+    fn the_caller_is_told_what_it_paid_in(rt: HostRuntime) -> Result<(), Fail> {
+        assert_eq!(rt; open_and_sell(rt.alloc())?, Ok(10));
+        Ok(())
+    }
+}

@@ -1,14 +1,14 @@
 -- The states that the caller's calls go through, from the new book on.
-use Rattle.std.proofs.Common.{◌≡◌, ℕ, Ok, Err, Result, subst, ap, ◌∙◌, arith}
+use Rattle.std.proofs.Common.{◌≡◌, ℕ, Some, Ok, Err, Result, subst, ap, ◌∙◌, arith}
 use Rattle.register.specs.Holdings.{Holdings, zero_holdings}
 use Rattle.fault.specs.declared.fault.Fault.{Fault}
 use Rattle.book.specs.State.{State, with_daily}
-use Rattle.book.specs.Daily.{agreed_to, entered}
+use Rattle.book.specs.Daily.{agreed_to, entered, on_book}
 use Rattle.register.specs.declared.entry.Entry.TheVariants.{Put}
 use Rattle.book.specs.Paying.{Paid, with_payment, told}
 use Rattle.book.specs.Trading.{TermsSet, Traded}
 use Rattle.book.specs.Opening.{opened, opens_on}
-use Rattle.cases.specs.Caller.{new_book}
+use Rattle.cases.specs.Caller.{new_book, sale}
 use Rattle.cases.specs.declared.caller.TheConstants.{SHARES, SELLER, BUYER, SALE}
 
 abbrev pub paid : State
@@ -46,3 +46,6 @@ sells {t = t} {r = r} e c = let d = subst (λ s. Traded s SALE r t) e c in (d.an
 
 pub tells : {s : State} {r : Result ℕ Fault} → s ≡ sold → r ≡ told s SHARES → r ≡ Ok 10
 tells {r = r} e c = subst (λ s. r ≡ told s SHARES) e c
+
+pub enters : {s : State} → s ≡ sold → on_book 1 s.daily.movements ≡ Some sale
+enters e = ap (λ s. on_book 1 s.daily.movements) e

@@ -1,8 +1,9 @@
 //! A caller of a book, as a new user would write one, with what is proved of it.
-ghost use Rattle.std.specs.Prelude.{◌≡◌, Ok, IfOk};
+ghost use Rattle.std.specs.Prelude.{◌≡◌, Some, Ok, IfOk};
 ghost use Rattle.register.specs.Table.{table_shows};
 ghost use Rattle.book.specs.Books.{state_of};
-ghost use Rattle.cases.specs.Caller.{new_book};
+ghost use Rattle.book.specs.Daily.{on_book};
+ghost use Rattle.cases.specs.Caller.{new_book, sale};
 
 use book::{Book, Place, Settlement};
 use fault::Fault;
@@ -62,10 +63,12 @@ pub fn open(alloc: Global) -> Result<Book<Table, Table>, AllocError>
     Ok(Book::open(securities, cash, 0))
 }
 
-/// Participant 1 pays in 10 pieces, of which 6 are sold. Nothing settles yet, so it still has 10, and that is told.
+/// Participant 1 pays in 10 pieces, of which 6 are sold: the sale stands on the book. Nothing settles yet, so the
+/// participant still has 10, and that is told.
 pub fn sell(book: &mut Book<Table, Table>) -> Result<u64, Fault>
     requires { state_of table_shows table_shows book.old ≡ new_book }
-    ensures { result ≡ Ok 10 }
+    ensures told { result ≡ Ok 10 }
+    ensures entered { on_book 1 (state_of table_shows table_shows book.new).daily.movements ≡ Some sale }
 {
     book.pay_in(SHARES, 10)?;
     book.set_terms(SELLER)?;

@@ -1,4 +1,4 @@
-use Rattle.cases.proofs.Calling.{accepted, pays, seller_agrees, buyer_agrees, sells, tells}
+use Rattle.cases.proofs.Calling.{accepted, pays, seller_agrees, buyer_agrees, sells, tells, enters}
 use Rattle.cases.proofs.caller.sell.Goals as goal
 
 pub returns-in_err-pay_in : goal.returns-in_err-pay_in
@@ -27,4 +27,5 @@ returns c =
     let paid = pays c.requires c.pay_in.ensures in
     let seller = seller_agrees paid.1 c.set_terms.ensures in
     let buyer = buyer_agrees seller.1 c.set_terms-2.ensures in
-    tells (sells buyer.1 c.trade.ensures).1 c.tell.ensures
+    let sale = sells buyer.1 c.trade.ensures in
+    record { told = tells sale.1 c.tell.ensures; entered = enters sale.1 }

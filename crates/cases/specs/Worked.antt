@@ -1,6 +1,6 @@
 -- Worked cases: what the rules answer to one call after a few others.
 use Rattle.std.specs.Prelude.{◌≡◌, ℕ, zero, suc, List, [], ◌∷◌, ◌++◌, map, Ok, Err, codes, Result}
-use Rattle.register.specs.Holdings.{Holdings}
+use Rattle.register.specs.Holdings.{zero_holdings}
 use Rattle.fault.specs.declared.fault.Fault.{Fault}
 use Rattle.fault.specs.Numbers.{fault_number}
 use Rattle.movement.specs.declared.trade.TradeSide.{TradeSide}
@@ -13,13 +13,9 @@ use Rattle.history.specs.declared.call.Answer.{Answer}
 use Rattle.history.specs.declared.call.Answer.TheVariants.{Done, Amount}
 use Rattle.history.specs.Step.{answer, after}
 
--- a register in which nothing stands
-abbrev pub nothing : ℕ → ℕ → Holdings
-nothing kinds accounts = record { kinds = kinds; accounts = accounts; amount = λ k a. 0 }
-
 -- the opening of every case: 4 securities, 2 currencies, 32 accounts, everything 0, day 0
 abbrev pub at_first : State
-at_first = opened (opens_on (nothing 4 32) (nothing 2 32) 0)
+at_first = opened (opens_on (zero_holdings 4 32) (zero_holdings 2 32) 0)
 
 -- the state after calls, one after the other
 abbrev pub after_all : State → List Call → State

@@ -1,5 +1,5 @@
 -- How positions change with the package.
-use Rattle.std.proofs.Common.{◌≡◌, ℕ, ◌+◌, ◌<◌, Bool, true, false, cond, List, length, set, ℤ, pos, ◌+ℤ◌, ◌-ℤ◌, arith}
+use Rattle.std.proofs.Common.{◌≡◌, ℕ, ◌+◌, ◌<◌, Bool, true, false, cond, not, List, length, set, ℤ, pos, ◌+ℤ◌, ◌-ℤ◌, arith}
 use Rattle.std.proofs.lemmas.Int.{ints}
 use Rattle.std.proofs.lemmas.Bool.{cond-true, cond-false}
 use Rattle.movement.specs.declared.movement.Movement.{Movement}
@@ -43,18 +43,15 @@ module _ (movements : List Movement) (marks : List Bool) where
       let t = marked_less (length movements) marks (λ j. takes (at movements j) p) i below inside in
       omega (arith, ints)
 
-  -- the table after a movement was entered, and after one was taken out
-  pub kept_rejoined : (i : ℕ) (table table' : List ℤ) → i < length movements → i < length marks → in_package marks i ≡ false → Kept movements marks table →
-      Posted table table' (brings (at movements i)) (takes (at movements i)) → Kept movements (set marks i true) table'
-  kept_rejoined i table table' below within outside kept posted p h =
+  -- the table after a movement was entered or taken out
+  pub kept_marked : (i : ℕ) (inside : Bool) (table table' : List ℤ) → i < length movements → i < length marks → in_package marks i ≡ not inside → Kept movements marks table →
+      Posted table table' inside (brings (at movements i)) (takes (at movements i)) → Kept movements (set marks i inside) table'
+  kept_marked i true table table' below within outside kept posted p h =
       let changed = position_rejoined i p below within outside in
       let before = kept p h in
       let after = posted p in
       omega (arith, ints)
-
-  pub kept_struck : (i : ℕ) (table table' : List ℤ) → i < length movements → in_package marks i ≡ true → Kept movements marks table →
-      Posted table table' (takes (at movements i)) (brings (at movements i)) → Kept movements (set marks i false) table'
-  kept_struck i table table' below inside kept posted p h =
+  kept_marked i false table table' below within inside kept posted p h =
       let changed = position_struck i p below inside in
       let before = kept p h in
       let after = posted p in

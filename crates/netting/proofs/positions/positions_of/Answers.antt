@@ -1,33 +1,48 @@
-use Rattle.std.proofs.Common.{pos, refl, arith, rules}
-use Rattle.std.proofs.lemmas.List.{get_or-replicate}
+use Rattle.std.proofs.Common.{◌≡◌, ◌+◌, ◌<◌, true, false, length, ◌∷◌, [], ◌++◌, get_or, sym, ◌∙◌, pos, min, arith, rules}
+use Rattle.std.proofs.lemmas.List.{get_or-replicate, length-append}
+use Rattle.std.proofs.lemmas.Int.{ints}
+use Rattle.std.proofs.lemmas.Slice.Zip.{zip_turn, zip_end}
+use Rattle.netting.specs.declared.places.TheConstants.{PLACES}
+use Rattle.netting.specs.Places.{nothing}
+use Rattle.netting.specs.Positions.{in_package}
+use Rattle.netting.proofs.Within.{fitting_facts}
 use Rattle.netting.proofs.Bounds.{position_near}
 use Rattle.netting.proofs.Changes.{position_in, position_out}
 use Rattle.netting.proofs.positions.positions_of.Goals as goal
-use Rattle.netting.proofs.positions.positions_of.Goals.{then-marks-i, else-marks-i}
 
-pub loop-i-init : goal.loop-i-init
-loop-i-init c = (refl, λ p h. get_or-replicate 576 p (pos 0) (pos 0) h)
+pub loop-m-init : goal.loop-m-init
+loop-m-init c = ((tt, tt), tt, λ p h. get_or-replicate PLACES p (pos 0) (pos 0) h)
 
-pub enter-requires : goal.enter-requires
-enter-requires c = record {
-  fits = c.requires.fit c.loop-i.i (omega arith);
-  room = λ p h. rw (c.loop-i.invariant.1 p h) (position_near c.args.movements.now c.args.marks.now c.loop-i.i p c.requires (omega arith));
-}
+pub post-requires-clause-room : goal.post-requires-clause-room
+post-requires-clause-room c p h =
+    let turn = zip_turn c.args.movements.now c.args.marks.now c.loop-m.yielded c.into_iter-m-iterator.result c.loop-m.m-iterator c.next.new.self c.next.result (search rules) (search rules) c.loop-m.yielded_by (c.in-Some.m, c.in-Some.inside) c.in-Some.is c.next.ensures.steps in
+    let fitting = fitting_facts c.args.movements.now c.requires in
+    rw (c.loop-m.invariant.2 p h) (position_near c.args.movements.now c.args.marks.now (length c.loop-m.yielded) p fitting (omega arith))
 
-pub loop-i-preserved : goal.loop-i-preserved
-loop-i-preserved c =
-    elim c.if-marks-i.branch [
-      | then-marks-i w ↦ (
-        search rules,
-        λ p h. let more = position_in c.args.movements.now c.args.marks.now c.loop-i.i p w.if-marks-i.true in
-            let entered = w.enter.ensures p in
-            let before = c.loop-i.invariant.1 p h in
-            search rules,
-      )
-      | else-marks-i w ↦ (
-        search rules,
-        λ p h. let more = position_out c.args.movements.now c.args.marks.now c.loop-i.i p w.if-marks-i.false in
-            let before = c.loop-i.invariant.1 p h in
-            search rules,
-      )
-    ]
+pub loop-m-preserved-then-inside : goal.loop-m-preserved-then-inside
+loop-m-preserved-then-inside c =
+    let turn = zip_turn c.args.movements.now c.args.marks.now c.loop-m.yielded c.into_iter-m-iterator.result c.loop-m.m-iterator c.next.new.self c.next.result (search rules) (search rules) c.loop-m.yielded_by (c.in-Some.m, c.in-Some.inside) c.in-Some.is c.next.ensures.steps in
+    let more : length (c.loop-m.yielded ++ (c.in-Some.m, c.in-Some.inside) ∷ []) ≡ length c.loop-m.yielded + 1 = simp length-append in
+    let inside : in_package c.args.marks.now (length c.loop-m.yielded) ≡ true = sym (turn.3 false) ∙ c.if-inside.true in (
+      (tt, tt),
+      tt,
+      λ p h.
+          let posted = rw (turn.2 nothing) at (c.post.ensures p) in
+          let before = c.loop-m.invariant.2 p h in
+          let after = position_in c.args.movements.now c.args.marks.now (length c.loop-m.yielded) p inside in
+          rw more (omega (arith, ints)),
+    )
+
+pub loop-m-preserved : goal.loop-m-preserved
+loop-m-preserved c =
+    let turn = zip_turn c.args.movements.now c.args.marks.now c.loop-m.yielded c.into_iter-m-iterator.result c.loop-m.m-iterator c.next.new.self c.next.result (search rules) (search rules) c.loop-m.yielded_by (c.in-Some.m, c.in-Some.inside) c.in-Some.is c.next.ensures.steps in
+    let more : length (c.loop-m.yielded ++ (c.in-Some.m, c.in-Some.inside) ∷ []) ≡ length c.loop-m.yielded + 1 = simp length-append in
+    let outside : in_package c.args.marks.now (length c.loop-m.yielded) ≡ false = sym (turn.3 false) ∙ c.if-inside.false in
+    ((tt, tt), tt, λ p h. rw more (c.loop-m.invariant.2 p h ∙ sym (position_out c.args.movements.now c.args.marks.now (length c.loop-m.yielded) p outside)))
+
+pub returns : goal.returns
+returns c p h =
+    let fitting = fitting_facts c.args.movements.now c.requires in
+    let end = zip_end c.args.movements.now c.args.marks.now c.loop-m.yielded c.into_iter-m-iterator.result c.loop-m.m-iterator c.next.new.self c.next.result (search rules) (search rules) c.loop-m.yielded_by c.in-None.is c.next.ensures.steps in
+    let all : length c.loop-m.yielded ≡ length c.args.movements.now = omega (arith, fitting.few) in
+    rw all at (c.loop-m.invariant.2 p h)

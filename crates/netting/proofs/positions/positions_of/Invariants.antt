@@ -1,7 +1,9 @@
-use Rattle.std.proofs.Common.{◌≡◌, ℕ, ◌<◌, length, get_or, pos}
+use Rattle.std.proofs.Common.{◌≡◌, ℕ, ◌<◌, length, slice_index_or, pos}
+use Rattle.netting.specs.declared.places.TheConstants.{PLACES}
 use Rattle.netting.specs.Positions.{position_by}
 use Rattle.netting.proofs.positions.positions_of.Given as goal
 
-abbrev pub invariant-loop-i : goal.invariant-loop-i
-invariant-loop-i l =
-    (length l.positions ≡ 576) × ((p : ℕ) → p < 576 → get_or l.positions p (pos 0) ≡ position_by l.i l.movements l.marks p)
+abbrev pub invariant-loop-m : goal.invariant-loop-m
+invariant-loop-m l =
+    (goal.iterator-loop-m).can_next l.m-iterator × (goal.iterator-loop-m).is_finite l.m-iterator
+    × ((p : ℕ) → p < PLACES → slice_index_or l.positions p (pos 0) ≡ position_by (length l.yielded) l.movements l.marks p)

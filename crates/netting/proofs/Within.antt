@@ -42,12 +42,17 @@ amounts_small amounts e p =
     (λ (q : length amounts ≤ p). rw (get_or_past amounts p 0 q) (omega arith))
     (cases_lt p (length amounts))
 
+pub bounded_fitting : (movements : List Movement) (amounts : List ℕ) → IsTrue (bounded movements amounts) → IsTrue (fitting movements)
+bounded_fitting movements amounts e =
+    let parts = and_parts _ (small amounts) e in
+    (and_parts (fitting movements) (none_below (length movements - 1) (falls movements)) parts.0).0
+
 pub bounded_facts : (movements : List Movement) (amounts : List ℕ) → IsTrue (bounded movements amounts) → Bounded movements amounts
 bounded_facts movements amounts e =
     let parts = and_parts _ (small amounts) e in
     let front = and_parts (fitting movements) (none_below (length movements - 1) (falls movements)) parts.0 in
     record {
-      fitting = fitting_facts movements front.0;
+      fitting = fitting_facts movements (bounded_fitting movements amounts e);
       rising = λ i h. leb-false _ _ (none_at (falls movements) (length movements - 1) front.1 i (omega arith));
       small = amounts_small amounts parts.1;
     }

@@ -1,14 +1,15 @@
--- A table of positions that is kept up to date.
+-- A table of what places have after posting that is kept up to date.
 use Rattle.std.specs.Prelude.{◌≡◌, ℕ, ◌+◌, ◌*◌, ◌<◌, ◌≤◌, Bool, true, false, List, ℤ, pos, ◌+ℤ◌, ◌-ℤ◌, neg_ℤ, ◌≤ℤ◌, slice_index_or}
+use Rattle.register.specs.Holdings.{limit}
 use Rattle.movement.specs.declared.movement.Movement.{Movement}
 use Rattle.netting.specs.declared.leg.Leg.{Leg}
 use Rattle.netting.specs.declared.places.TheConstants.{PLACES}
 use Rattle.netting.specs.declared.limits.TheConstants.{MOVEMENTS, MOST_MOVED}
 use Rattle.netting.specs.Positions.{position}
 
--- a table of the positions of a package
-abbrev pub Kept : List Movement → List Bool → List ℤ → Type 0
-Kept movements marks table = (p : ℕ) → p < PLACES → slice_index_or table p (pos 0) ≡ position movements marks p
+-- a table of what places have after a package is posted, by what they had before
+abbrev pub Kept : (ℕ → ℤ) → List Movement → List Bool → List ℤ → Type 0
+Kept before movements marks table = (p : ℕ) → p < PLACES → slice_index_or table p (pos 0) ≡ before p +ℤ position movements marks p
 
 -- a change as a movement enters the package, or taken back as it leaves
 abbrev pub signed : Bool → ℤ → ℤ
@@ -24,12 +25,12 @@ Posted before after inside brings takes =
 abbrev pub most_legs : ℕ
 most_legs = 2 * MOVEMENTS
 
--- no further from 0 than so many legs can bring it
+-- no further from 0 than what a place can hold and so many legs can bring it
 pub record IsNear (legs : ℕ) (z : ℤ) : Type 0 where
-  pub above : neg_ℤ (pos (legs * MOST_MOVED)) ≤ℤ z
-  pub below : z ≤ℤ pos (legs * MOST_MOVED)
+  pub above : neg_ℤ (pos (limit + legs * MOST_MOVED)) ≤ℤ z
+  pub below : z ≤ℤ pos (limit + legs * MOST_MOVED)
 
--- so is every position
+-- so is every place of a table
 abbrev pub IsRoomy : ℕ → List ℤ → Type 0
 IsRoomy legs table = (p : ℕ) → p < PLACES → IsNear legs (slice_index_or table p (pos 0))
 

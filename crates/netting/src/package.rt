@@ -1,6 +1,7 @@
 //! A package: the movements of a netting, of which those that are marked are inside. Two steps
 //! decide who settles: strikes while a place is short, then rejoins.
-ghost use Rattle.std.specs.Prelude.{◌≡◌, ℕ, ◌+◌, ◌<◌, ◌≤◌, ◌↔◌, IsTrue, not, length};
+ghost use Rattle.std.specs.Prelude.{◌≡◌, ℕ, ◌+◌, ◌<◌, ◌≤◌, ◌↔◌, IsTrue, not, length, pos, slice_index, slice_index_or};
+ghost use Rattle.register.specs.Holdings.{limit};
 ghost use Rattle.netting.specs.declared.places.TheConstants.{PLACES as PLACES_of};
 ghost use Rattle.netting.specs.declared.limits.TheConstants.{MOVEMENTS as MOVEMENTS_of};
 ghost use Rattle.netting.specs.Search.{FindsFirst, FindsLast};
@@ -14,19 +15,19 @@ ghost use Rattle.netting.specs.Held.{Held, marking, amount_after, is_short, no_p
 use crate::leg::Leg;
 use crate::limits::MOVEMENTS;
 use crate::places::PLACES;
-use crate::positions::{positions_of, post};
+use crate::positions::{post, posted};
 use movement::{Movement, Side};
 use std::marker::Model;
 
-/// The movements, the amounts of all places, who is tried and who is inside, with the positions that
-/// follow.
+/// The movements, the amounts of all places, who is tried and who is inside, with what places have
+/// after posting those.
 #[derive(Drop)]
 pub struct Package<'a> {
     movements: &'a [Movement],
     amounts: &'a [u64; PLACES],
     tried: &'a [bool; MOVEMENTS],
     marks: [bool; MOVEMENTS],
-    positions: [i64; PLACES],
+    after_posting: [i64; PLACES],
 }
 
 impl<'a> Model for Package<'a> {
@@ -61,7 +62,7 @@ impl<'a> Package<'a> {
             amounts,
             tried,
             marks: *tried,
-            positions: positions_of(movements, tried),
+            after_posting: posted(as_signed(amounts), movements, tried),
         }
     }
 
@@ -77,21 +78,14 @@ impl<'a> Package<'a> {
         requires { place < PLACES_of }
         ensures { result ≡ amount_after self.now place }
     {
-        self.amounts[place] as i64 + self.positions[place]
+        self.after_posting[place]
     }
 
     // The first short place.
     fn first_short(&self) -> Option<usize>
         ensures { FindsFirst PLACES_of (is_short self.now) result }
     {
-        // Stays: tried, and it misses a bar of speed that this form meets: a `find` looks at one place
-        // a step, where the compiler looks at several in this loop.
-        for place in 0..PLACES {
-            if self.amount_after(place) < 0 {
-                return Some(place);
-            }
-        }
-        None
+        self.after_posting.iter().position(|amount| *amount < 0)
     }
 
     // The last of the package that takes from a place without bringing to it.
@@ -164,7 +158,7 @@ impl<'a> Package<'a> {
     {
         let movements = self.movements;
         self.marks[i] = inside;
-        post(&mut self.positions, &movements[i], inside);
+        post(&mut self.after_posting, &movements[i], inside);
     }
 
     /// Step 1: while a place is short, the last that takes from the first such place is struck.
@@ -185,6 +179,18 @@ impl<'a> Package<'a> {
             self.set(i, true);
         }
     }
+}
+
+// The amounts as they may be posted to.
+fn as_signed(amounts: &[u64; PLACES]) -> [i64; PLACES]
+    requires { (p : ℕ) → p < PLACES_of → slice_index amounts.now p ≤ limit }
+    ensures { (p : ℕ) → p < PLACES_of → slice_index_or result p (pos 0) ≡ pos (slice_index amounts.now p) }
+{
+    let mut signed = [0; PLACES];
+    for (place, amount) in amounts.iter().enumerate() {
+        signed[place] = *amount as i64;
+    }
+    signed
 }
 
 // Whether a movement takes from a place.

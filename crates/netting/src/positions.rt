@@ -1,4 +1,4 @@
-//! Positions of places: what a package brings there less what it takes.
+//! What a package brings to places and takes from them.
 ghost use Rattle.std.specs.Prelude.{◌≡◌, ℕ, ◌+◌, ◌<◌, ◌≤◌, IsTrue, ◌&&◌, pos, ◌+ℤ◌, is_some, IfSome, if◌then◌else◌, nat_eq, nat_lt, slice_index_or};
 ghost use Rattle.netting.specs.declared.places.TheConstants.{PLACES as PLACES_of};
 ghost use Rattle.netting.specs.declared.limits.TheConstants.{MOST_MOVED};
@@ -24,49 +24,54 @@ fn signed(amount: u64, inside: bool) -> i64
     }
 }
 
-// Raises one position.
-fn shift(positions: &mut [i64; PLACES], place: usize, by: i64)
+// Raises one amount.
+fn shift(amounts: &mut [i64; PLACES], place: usize, by: i64)
     requires place { place < PLACES_of }
-    requires room { IsNear (most_legs + 2) (slice_index_or positions.old place (pos 0)) }
+    requires room { IsNear (most_legs + 2) (slice_index_or amounts.old place (pos 0)) }
     requires small { IsNear 1 by }
-    ensures { (p : ℕ) → slice_index_or positions.new p (pos 0)
-        ≡ slice_index_or positions.old p (pos 0) +ℤ (if nat_eq p place then by else pos 0) }
+    ensures { (p : ℕ) → slice_index_or amounts.new p (pos 0)
+        ≡ slice_index_or amounts.old p (pos 0) +ℤ (if nat_eq p place then by else pos 0) }
 {
-    positions[place] += by;
+    amounts[place] += by;
 }
 
 // Takes a leg's amount from one place and brings it to the other, or back where it leaves.
-fn post_leg(positions: &mut [i64; PLACES], leg: Leg, inside: bool)
+fn post_leg(amounts: &mut [i64; PLACES], leg: Leg, inside: bool)
     requires fits { LegFits leg }
-    requires room { IsRoomy (most_legs + 1) positions.old }
-    ensures { Posted positions.old positions.new inside (leg_brings leg) (leg_takes leg) }
+    requires room { IsRoomy (most_legs + 1) amounts.old }
+    ensures { Posted amounts.old amounts.new inside (leg_brings leg) (leg_takes leg) }
 {
-    shift(positions, leg.from, signed(leg.amount, !inside));
-    shift(positions, leg.to, signed(leg.amount, inside));
+    shift(amounts, leg.from, signed(leg.amount, !inside));
+    shift(amounts, leg.to, signed(leg.amount, inside));
 }
 
 /// Posts both legs of a movement, as it enters the package or leaves it.
-pub fn post(positions: &mut [i64; PLACES], m: &Movement, inside: bool)
+pub fn post(amounts: &mut [i64; PLACES], m: &Movement, inside: bool)
     requires fits { IsTrue (fits m.now) }
-    requires room { IsRoomy most_legs positions.old }
-    ensures { Posted positions.old positions.new inside (brings m.now) (takes m.now) }
+    requires room { IsRoomy most_legs amounts.old }
+    ensures { Posted amounts.old amounts.new inside (brings m.now) (takes m.now) }
 {
-    post_leg(positions, Leg::of(m, Side::Securities), inside);
-    post_leg(positions, Leg::of(m, Side::Cash), inside);
+    post_leg(amounts, Leg::of(m, Side::Securities), inside);
+    post_leg(amounts, Leg::of(m, Side::Cash), inside);
 }
 
-/// The positions of all places under a package.
-pub fn positions_of(movements: &[Movement], marks: &[bool; MOVEMENTS]) -> [i64; PLACES]
-    requires { IsTrue (fitting_of movements.now) }
-    ensures { Kept movements.now marks.now result }
+/// What each place has after a package is posted, by what it had before.
+pub fn posted(
+    before: [i64; PLACES],
+    movements: &[Movement],
+    marks: &[bool; MOVEMENTS],
+) -> [i64; PLACES]
+    requires room { IsRoomy 0 before }
+    requires fitting { IsTrue (fitting_of movements.now) }
+    ensures { Kept (λ p. slice_index_or before p (pos 0)) movements.now marks.now result }
 {
-    let mut positions = [0; PLACES];
+    let mut amounts = before;
     for (m, inside) in movements.iter().zip(marks) {
         if *inside {
-            post(&mut positions, m, true);
+            post(&mut amounts, m, true);
         }
     }
-    positions
+    amounts
 }
 
 /// The position of a place under a package. None past the last place, or where the movements cannot
@@ -76,7 +81,7 @@ pub fn position(movements: &[Movement], marks: &[bool; MOVEMENTS], place: usize)
     ensures value { IfSome result (λ z. z ≡ position_of movements.now marks.now place) }
 {
     if place < PLACES && fitting(movements) {
-        Some(positions_of(movements, marks)[place])
+        Some(posted([0; PLACES], movements, marks)[place])
     } else {
         None
     }

@@ -1,4 +1,4 @@
-use Rattle.std.proofs.Common.{◌≡◌, ◌<◌, not, length, arith}
+use Rattle.std.proofs.Common.{◌≡◌, ◌<◌, not, length, pos, slice_index, arith}
 use Rattle.netting.specs.Positions.{in_package}
 use Rattle.netting.proofs.Fields.{fitting, room}
 use Rattle.netting.proofs.Changes.{kept_marked}
@@ -15,5 +15,5 @@ invariant_of-self c =
     let few = (fitting fields c.self.invariant).few in
     record {
       bounded = c.self.invariant.bounded;
-      kept = kept_marked fields.movements.now fields.marks c.args.i c.args.inside _ _ below (omega arith) other c.self.invariant.kept c.post.ensures;
+      kept = kept_marked fields.movements.now fields.marks (λ p. pos (slice_index fields.amounts.now p)) c.args.i c.args.inside _ _ below (omega arith) other c.self.invariant.kept c.post.ensures;
     }

@@ -1,9 +1,0 @@
-use Rattle.std.proofs.Common.{◌≡◌, ℕ, ◌<◌, length, slice_index_or, pos}
-use Rattle.netting.specs.declared.places.TheConstants.{PLACES}
-use Rattle.netting.specs.Positions.{position_by}
-use Rattle.netting.proofs.positions.positions_of.Given as goal
-
-abbrev pub invariant-loop-m : goal.invariant-loop-m
-invariant-loop-m l =
-    (goal.iterator-loop-m).can_next l.m-iterator × (goal.iterator-loop-m).is_finite l.m-iterator
-    × ((p : ℕ) → p < PLACES → slice_index_or l.positions p (pos 0) ≡ position_by (length l.yielded) l.movements l.marks p)

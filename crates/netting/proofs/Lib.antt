@@ -1,4 +1,3 @@
-pub mod Lists
 pub mod Sums
 pub mod Search
 pub mod Legs

@@ -1,6 +1,6 @@
 -- What searches find, and what repetition comes to.
-use Rattle.std.proofs.Common.{◌≡◌, ℕ, zero, suc, ◌+◌, ◌-◌, ◌<◌, ◌≤◌, Bool, true, false, cond, not, is_some, Some, None, Option, MatchOption, sym, refl, ap, ◌∙◌, ⊎_elim, add-one, arith}
-use Rattle.std.proofs.lemmas.Bool.{cases_eq, cases_lt, cases_Bool, cond-true, cond-false, both_ways, true≢false, false≢true}
+use Rattle.std.proofs.Common.{◌≡◌, ℕ, zero, suc, ◌<◌, ◌≤◌, Bool, true, false, cond, not, is_some, Some, None, Option, MatchOption, refl, ap, ◌∙◌, ⊎_elim, arith}
+use Rattle.std.proofs.lemmas.Bool.{cases_eq, cases_lt, cases_Bool, cond-false, both_ways, false≢true}
 use Rattle.netting.specs.Search.{or_at, first_below, last_below, none_below, FindsFirst, FindsLast, times}
 
 first_more : (passes : ℕ → Bool) (n : ℕ) (found : Option ℕ) (here : Bool) → passes n ≡ here → FindsFirst n passes found → FindsFirst (suc n) passes (or_at found here n)

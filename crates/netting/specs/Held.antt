@@ -1,5 +1,5 @@
 -- A package as contracts see it, and what the two steps do to it.
-use Rattle.std.specs.Prelude.{ℕ, Bool, ◌&&◌, List, length, ℤ, Option, slice_set}
+use Rattle.std.specs.Prelude.{ℕ, Bool, ◌&&◌, List, ℤ, Option, slice_set}
 use Rattle.movement.specs.declared.movement.Movement.{Movement}
 use Rattle.netting.specs.Places.{at, only_takes}
 use Rattle.netting.specs.Positions.{in_package, after_posting, short}

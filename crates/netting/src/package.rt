@@ -2,15 +2,13 @@
 //! decide who settles: strikes while a place is short, then rejoins.
 ghost use Rattle.std.specs.Prelude.{◌≡◌, ℕ, ◌+◌, ◌<◌, ◌≤◌, ◌↔◌, IsTrue, not, length, pos, slice_index, slice_index_or};
 ghost use Rattle.register.specs.Holdings.{limit};
-ghost use Rattle.netting.specs.declared.places.TheConstants.{PLACES as PLACES_of};
-ghost use Rattle.netting.specs.declared.limits.TheConstants.{MOVEMENTS as MOVEMENTS_of};
 ghost use Rattle.netting.specs.Search.{FindsFirst, FindsLast};
 ghost use Rattle.netting.specs.Places.{only_takes as only_takes_from, takes, brings};
 ghost use Rattle.netting.specs.Positions.{in_package};
 ghost use Rattle.netting.specs.Rejoins.{struck, leg_covered, covered};
 ghost use Rattle.netting.specs.Limits.{fits, bounded};
 ghost use Rattle.netting.specs.Tables.{LegFits};
-ghost use Rattle.netting.specs.Held.{Held, marking, amount_after, is_short, no_place_is_short, is_taker, next_struck, can_rejoin_with, IsSafe, with_strikes, with_rejoins};
+ghost use Rattle.netting.specs.Held.{Held, marking, amount_after, is_short, no_place_is_short, is_taker, next_struck, can_rejoin_with, next_rejoined, IsSafe, with_strikes, with_rejoins};
 
 use crate::leg::Leg;
 use crate::limits::MOVEMENTS;
@@ -24,6 +22,7 @@ use std::marker::Model;
 #[derive(Drop)]
 pub struct Package<'a> {
     movements: &'a [Movement],
+    // what places had before; only contracts read it
     amounts: &'a [u64; PLACES],
     tried: &'a [bool; MOVEMENTS],
     marks: [bool; MOVEMENTS],
@@ -75,7 +74,7 @@ impl<'a> Package<'a> {
 
     // The amount of a place after posting.
     fn amount_after(&self, place: usize) -> i64
-        requires { place < PLACES_of }
+        requires { place < PLACES }
         ensures { result ≡ amount_after self.now place }
     {
         self.after_posting[place]
@@ -83,7 +82,7 @@ impl<'a> Package<'a> {
 
     // The first short place.
     fn first_short(&self) -> Option<usize>
-        ensures { FindsFirst PLACES_of (is_short self.now) result }
+        ensures { FindsFirst PLACES (is_short self.now) result }
     {
         self.after_posting.iter().position(|amount| *amount < 0)
     }
@@ -92,6 +91,8 @@ impl<'a> Package<'a> {
     fn last_taker(&self, place: usize) -> Option<usize>
         ensures { FindsLast (length self.now.movements) (is_taker self.now place) result }
     {
+        // Stays: tried, and the proof did not close: neither with `find` over these numbers, nor with
+        // `rposition` over the movements beside their marks.
         for i in (0..self.movements.len()).rev() {
             if self.marks[i] && only_takes(&self.movements[i], place) {
                 return Some(i);
@@ -110,7 +111,7 @@ impl<'a> Package<'a> {
 
     // Whether a movement was tried and is not inside any more.
     fn was_struck(&self, i: usize) -> bool
-        requires { i < MOVEMENTS_of }
+        requires { i < MOVEMENTS }
         ensures { result ≡ struck self.now.tried self.now.marks i }
     {
         self.tried[i] && !self.marks[i]
@@ -145,7 +146,7 @@ impl<'a> Package<'a> {
     // The lowest of the struck that can rejoin with no place short.
     fn next_to_rejoin(&self) -> Option<usize>
         requires { IsTrue (no_place_is_short self.now) }
-        ensures { FindsFirst (length self.now.movements) (can_rejoin_with self.now) result }
+        ensures { result ≡ next_rejoined self.now }
     {
         (0..self.movements.len()).find(|&i| self.can_rejoin(i))
     }
@@ -183,8 +184,8 @@ impl<'a> Package<'a> {
 
 // The amounts as they may be posted to.
 fn as_signed(amounts: &[u64; PLACES]) -> [i64; PLACES]
-    requires { (p : ℕ) → p < PLACES_of → slice_index amounts.now p ≤ limit }
-    ensures { (p : ℕ) → p < PLACES_of → slice_index_or result p (pos 0) ≡ pos (slice_index amounts.now p) }
+    requires { (p : ℕ) → p < PLACES → slice_index amounts.now p ≤ limit }
+    ensures { (p : ℕ) → p < PLACES → slice_index_or result p (pos 0) ≡ pos (slice_index amounts.now p) }
 {
     let mut signed = [0; PLACES];
     for (place, amount) in amounts.iter().enumerate() {

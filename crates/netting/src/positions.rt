@@ -1,14 +1,12 @@
 //! What a package brings to places and takes from them.
 ghost use Rattle.std.specs.Prelude.{◌≡◌, ℕ, ◌+◌, ◌<◌, ◌≤◌, IsTrue, ◌&&◌, pos, ◌+ℤ◌, is_some, IfSome, if◌then◌else◌, nat_eq, nat_lt, slice_index_or};
-ghost use Rattle.netting.specs.declared.places.TheConstants.{PLACES as PLACES_of};
-ghost use Rattle.netting.specs.declared.limits.TheConstants.{MOST_MOVED};
 ghost use Rattle.netting.specs.Places.{leg_takes, leg_brings, takes, brings};
 ghost use Rattle.netting.specs.Positions.{position as position_of};
 ghost use Rattle.netting.specs.Limits.{fits, fitting as fitting_of};
 ghost use Rattle.netting.specs.Tables.{Kept, Posted, IsNear, IsRoomy, LegFits, most_legs, signed as signed_of};
 
 use crate::leg::Leg;
-use crate::limits::{MOVEMENTS, fitting};
+use crate::limits::{MOST_MOVED, MOVEMENTS, fitting};
 use crate::places::PLACES;
 use movement::{Movement, Side};
 
@@ -26,7 +24,7 @@ fn signed(amount: u64, inside: bool) -> i64
 
 // Raises one amount.
 fn shift(amounts: &mut [i64; PLACES], place: usize, by: i64)
-    requires place { place < PLACES_of }
+    requires place { place < PLACES }
     requires room { IsNear (most_legs + 2) (slice_index_or amounts.old place (pos 0)) }
     requires small { IsNear 1 by }
     ensures { (p : ℕ) → slice_index_or amounts.new p (pos 0)
@@ -77,7 +75,7 @@ pub fn posted(
 /// The position of a place under a package. None past the last place, or where the movements cannot
 /// be netted.
 pub fn position(movements: &[Movement], marks: &[bool; MOVEMENTS], place: usize) -> Option<i64>
-    ensures answered { is_some result ≡ (nat_lt place PLACES_of && fitting_of movements.now) }
+    ensures answered { is_some result ≡ (nat_lt place PLACES && fitting_of movements.now) }
     ensures value { IfSome result (λ z. z ≡ position_of movements.now marks.now place) }
 {
     if place < PLACES && fitting(movements) {

@@ -1,8 +1,7 @@
-use Rattle.std.proofs.Common.{◌≡◌, ◌+◌, ◌<◌, true, false, length, ◌∷◌, [], ◌++◌, get_or, sym, ◌∙◌, pos, min, arith, rules}
+use Rattle.std.proofs.Common.{◌≡◌, ◌+◌, true, false, length, ◌∷◌, [], ◌++◌, sym, ◌∙◌, arith, rules}
 use Rattle.std.proofs.lemmas.List.{length-append}
 use Rattle.std.proofs.lemmas.Int.{ints}
 use Rattle.std.proofs.lemmas.Slice.Zip.{zip_turn, zip_end}
-use Rattle.netting.specs.declared.places.TheConstants.{PLACES}
 use Rattle.netting.specs.Places.{nothing}
 use Rattle.netting.specs.Positions.{in_package}
 use Rattle.netting.proofs.Within.{fitting_facts}

@@ -1,4 +1,4 @@
-use Rattle.std.proofs.Common.{◌≡◌, ◌-◌, ◌≤◌, ⊎_elim, rules, arith}
+use Rattle.std.proofs.Common.{◌≡◌, ◌-◌, ⊎_elim, rules, arith}
 use Rattle.std.proofs.lemmas.Bool.{cases_eq}
 use Rattle.netting.proofs.package.Package.last_taker.Goals as goal
 

@@ -1,5 +1,4 @@
-use Rattle.std.proofs.Common.{◌≡◌, ◌+ℤ◌, pos, slice_index, ap}
-use Rattle.netting.specs.Positions.{position}
+use Rattle.std.proofs.Common.{slice_index}
 use Rattle.netting.proofs.Within.{bounded_facts, bounded_fitting}
 use Rattle.netting.proofs.Bounds.{amount_near}
 use Rattle.netting.proofs.package.Package.new.Goals as goal

@@ -1,4 +1,4 @@
-use Rattle.std.proofs.Common.{rules, sym}
+use Rattle.std.proofs.Common.{rules}
 use Rattle.netting.proofs.Striking.{next_struck_none, next_struck_by}
 use Rattle.netting.proofs.package.Package.next_to_strike.Goals as goal
 

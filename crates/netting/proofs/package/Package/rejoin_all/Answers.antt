@@ -1,21 +1,20 @@
-use Rattle.std.proofs.Common.{length, sym, ◌∙◌}
-use Rattle.netting.specs.Held.{can_rejoin_with}
-use Rattle.netting.proofs.Search.{first_found}
-use Rattle.netting.proofs.Rejoining.{rejoined_one, rejoined_none}
+use Rattle.std.proofs.Common.{sym, ◌∙◌}
+use Rattle.netting.proofs.Rejoining.{rejoins, rejoined_one, rejoined_none}
 use Rattle.netting.proofs.package.Package.rejoin_all.Goals as goal
 
+pub set-requires-clause-below : goal.set-requires-clause-below
+set-requires-clause-below c = (rejoins c.loop-i.self.movements c.loop-i.self.amounts c.loop-i.self.tried c.loop-i.self.marks c.in-Some.i (sym c.in-Some.ensures)).below
+
+pub set-requires-clause-other : goal.set-requires-clause-other
+set-requires-clause-other c = (rejoins c.loop-i.self.movements c.loop-i.self.amounts c.loop-i.self.tried c.loop-i.self.marks c.in-Some.i (sym c.in-Some.ensures)).outside
+
 pub loop-i-smaller : goal.loop-i-smaller
-loop-i-smaller c =
-    let found = first_found (can_rejoin_with c.loop-i.self) (length c.loop-i.self.movements) _ c.in-Some.ensures in
-    (rejoined_one c.loop-i.self _ c.in-Some.i c.loop-i.invariant.0 found c.set.ensures).0
+loop-i-smaller c = (rejoined_one c.loop-i.self _ c.in-Some.i c.loop-i.invariant.0 (sym c.in-Some.ensures) c.set.ensures).0
 
 pub loop-i-preserved : goal.loop-i-preserved
 loop-i-preserved c =
-    let found = first_found (can_rejoin_with c.loop-i.self) (length c.loop-i.self.movements) _ c.in-Some.ensures in
-    let one = rejoined_one c.loop-i.self _ c.in-Some.i c.loop-i.invariant.0 found c.set.ensures in
+    let one = rejoined_one c.loop-i.self _ c.in-Some.i c.loop-i.invariant.0 (sym c.in-Some.ensures) c.set.ensures in
     (one.1, one.2 ∙ c.loop-i.invariant.1)
 
 pub returns : goal.returns
-returns c =
-    let none = first_found (can_rejoin_with c.loop-i.self) (length c.loop-i.self.movements) _ c.in_default.ensures in
-    rejoined_none c.loop-i.self none ∙ c.loop-i.invariant.1
+returns c = rejoined_none c.loop-i.self (sym c.in_default.ensures) ∙ c.loop-i.invariant.1

@@ -7,7 +7,8 @@ use Rattle.std.proofs.lemmas.Bool.Decides.{nat_tests}
 use Rattle.movement.specs.declared.movement.Movement.{Movement}
 use Rattle.movement.specs.declared.side.Side.TheVariants.{Securities, Cash}
 use Rattle.netting.specs.declared.leg.Leg.{Leg}
-use Rattle.netting.specs.Places.{at, leg_takes, leg_brings, leg_of, takes, brings}
+use Rattle.netting.specs.declared.places.TheConstants.{PLACES}
+use Rattle.netting.specs.Places.{at, place_of, leg_takes, leg_brings, leg_of, takes, brings}
 use Rattle.netting.specs.Positions.{in_package, after_posting}
 use Rattle.netting.specs.Strikes.{none_short}
 use Rattle.netting.specs.Limits.{fits}
@@ -16,11 +17,15 @@ use Rattle.netting.specs.Rejoins.{leg_covered, covered, struck, can_rejoin}
 use Rattle.netting.proofs.Changes.{position_rejoined}
 use Rattle.netting.proofs.Shortage.{none_short_at, none_short_all, some_short}
 
+-- the places of securities end where those of cash begin
+abbrev first_cash : ℕ
+first_cash = place_of Cash 0 0
+
 -- the legs of a movement have no place in common
-cash_apart : (m : Movement) (p : ℕ) → p < 512 → (leg_takes (leg_of Cash m) p ≡ 0) × (leg_brings (leg_of Cash m) p ≡ 0)
+cash_apart : (m : Movement) (p : ℕ) → p < first_cash → (leg_takes (leg_of Cash m) p ≡ 0) × (leg_brings (leg_of Cash m) p ≡ 0)
 cash_apart m p h = (grind (arith, nat_tests), grind (arith, nat_tests))
 
-securities_apart : (m : Movement) (p : ℕ) → fits m ≡ true → 512 ≤ p → (leg_takes (leg_of Securities m) p ≡ 0) × (leg_brings (leg_of Securities m) p ≡ 0)
+securities_apart : (m : Movement) (p : ℕ) → fits m ≡ true → first_cash ≤ p → (leg_takes (leg_of Securities m) p ≡ 0) × (leg_brings (leg_of Securities m) p ≡ 0)
 securities_apart m p known h = (grind (arith, nat_tests), grind (arith, nat_tests))
 
 -- a covered leg leaves no amount below 0, and another leg does
@@ -43,22 +48,22 @@ module _ (amount : ℕ → ℤ) (m : Movement) (known : fits m ≡ true) where
   covered_keeps p enough cover =
       let parts = and_parts (leg_covered amount (leg_of Securities m)) (leg_covered amount (leg_of Cash m)) cover in
       ⊎_elim
-      (λ (q : p < 512). let apart = cash_apart m p q in let keeps = leg_keeps amount (leg_of Securities m) p enough parts.0 in omega (arith, ints))
-      (λ (q : 512 ≤ p). let apart = securities_apart m p known q in let keeps = leg_keeps amount (leg_of Cash m) p enough parts.1 in omega (arith, ints))
-      (cases_lt p 512)
+      (λ (q : p < first_cash). let apart = cash_apart m p q in let keeps = leg_keeps amount (leg_of Securities m) p enough parts.0 in omega (arith, ints))
+      (λ (q : first_cash ≤ p). let apart = securities_apart m p known q in let keeps = leg_keeps amount (leg_of Cash m) p enough parts.1 in omega (arith, ints))
+      (cases_lt p first_cash)
 
-  uncovered_lacks : covered amount m ≡ false → (p : ℕ) × (p < 576) × (left_at p <ℤ pos 0)
+  uncovered_lacks : covered amount m ≡ false → (p : ℕ) × (p < PLACES) × (left_at p <ℤ pos 0)
   uncovered_lacks cover =
       ⊎_elim
       (λ (q : leg_covered amount (leg_of Securities m) ≡ false).
       let from = (leg_of Securities m).from in
-      let low : from < 512 = grind (arith, nat_tests) in
+      let low : from < first_cash = grind (arith, nat_tests) in
       let apart = cash_apart m from low in
       let lacks = leg_lacks amount (leg_of Securities m) q in
       (from, omega arith, omega (arith, ints)))
       (λ (q : leg_covered amount (leg_of Cash m) ≡ false).
       let from = (leg_of Cash m).from in
-      let high : 512 ≤ from = omega arith in
+      let high : first_cash ≤ from = omega arith in
       let apart = securities_apart m from known high in
       let lacks = leg_lacks amount (leg_of Cash m) q in
       (from, grind (arith, nat_tests), omega (arith, ints)))

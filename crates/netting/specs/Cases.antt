@@ -1,4 +1,5 @@
 -- Worked cases: who settles, given the movements and what accounts hold.
+-- Stays: the new form is no plainer; a constant may call no function, so a table for these and src/tests.rt would be rows of nine bare numbers, each made a movement by either.
 use Rattle.std.specs.Prelude.{◌≡◌, ℕ, Bool, true, false, List, [], ◌∷◌, length, replicate, slice_set}
 use Rattle.movement.specs.declared.movement.Movement.{Movement}
 use Rattle.movement.specs.declared.class.Class.TheVariants.{Central}

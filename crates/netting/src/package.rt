@@ -91,8 +91,8 @@ impl<'a> Package<'a> {
     fn last_taker(&self, place: usize) -> Option<usize>
         ensures { FindsLast (length self.now.movements) (is_taker self.now place) result }
     {
-        // Stays: tried, and the proof did not close: neither with `find` over these numbers, nor with
-        // `rposition` over the movements beside their marks.
+        // Stays: tried, and the proof did not close, neither with `find` over these numbers, nor
+        // with `rposition` over the movements beside their marks.
         for i in (0..self.movements.len()).rev() {
             if self.marks[i] && only_takes(&self.movements[i], place) {
                 return Some(i);
@@ -171,7 +171,7 @@ impl<'a> Package<'a> {
         }
     }
 
-    /// Step 2: the lowest of the struck that can rejoin with no place short rejoins, until none can.
+    /// Step 2: the lowest of the struck that can rejoin with no place short does, until none can.
     pub fn rejoin_all(&mut self)
         requires { IsSafe self.old }
         ensures { self.new ≡ with_rejoins self.old }
@@ -185,8 +185,10 @@ impl<'a> Package<'a> {
 // The amounts as they may be posted to.
 fn as_signed(amounts: &[u64; PLACES]) -> [i64; PLACES]
     requires { (p : ℕ) → p < PLACES → slice_index amounts.now p ≤ limit }
-    ensures { (p : ℕ) → p < PLACES → slice_index_or result p (pos 0) ≡ pos (slice_index amounts.now p) }
+    ensures { (p : ℕ) → p < PLACES →
+        slice_index_or result p (pos 0) ≡ pos (slice_index amounts.now p) }
 {
+    // Stays: tried, and the proof did not close: `map` asks that each amount fits the cast.
     let mut signed = [0; PLACES];
     for (place, amount) in amounts.iter().enumerate() {
         signed[place] = *amount as i64;

@@ -13,7 +13,7 @@ pub const CURRENCIES: usize = 2;
 /// How many accounts of a kind there are.
 pub const ACCOUNTS: usize = 32;
 
-/// How many places there are: the accounts of each kind of securities, then those of each kind of cash.
+/// How many places there are: the accounts of each kind of securities, then of each kind of cash.
 pub const PLACES: usize = ACCOUNTS * (SECURITIES + CURRENCIES);
 
 /// The place of an account of a kind of securities or of cash.

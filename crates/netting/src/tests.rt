@@ -1,4 +1,6 @@
 //! The worked cases through the code, and the number of movements at its limits.
+// Stays: the new form is no plainer; a constant may call no function, so a table for these tests
+// and specs/Cases.antt would be rows of nine bare numbers, each made a movement by either.
 use crate::{MOVEMENTS, PLACES, place_of, position, settling};
 use movement::{Class, Movement, Party, Side};
 use std::test::Fail;

@@ -5,5 +5,7 @@ pub mod Strikes
 pub mod Rejoins
 pub mod Limits
 pub mod Tables
+pub mod Held
+pub mod Package
 pub mod Theorems
 pub mod Cases

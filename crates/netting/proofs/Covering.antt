@@ -7,7 +7,6 @@ use Rattle.std.proofs.lemmas.Bool.Decides.{nat_tests}
 use Rattle.movement.specs.declared.movement.Movement.{Movement}
 use Rattle.movement.specs.declared.side.Side.TheVariants.{Securities, Cash}
 use Rattle.netting.specs.declared.leg.Leg.{Leg}
-use Rattle.netting.specs.declared.places.TheConstants.{PLACES}
 use Rattle.netting.specs.Places.{at, place_of, leg_takes, leg_brings, leg_of, takes, brings}
 use Rattle.netting.specs.Positions.{in_package, after_posting}
 use Rattle.netting.specs.Strikes.{none_short}
@@ -16,6 +15,7 @@ use Rattle.netting.proofs.Within.{Fitting}
 use Rattle.netting.specs.Rejoins.{leg_covered, covered, struck, can_rejoin}
 use Rattle.netting.proofs.Changes.{position_rejoined}
 use Rattle.netting.proofs.Shortage.{none_short_at, none_short_all, some_short}
+use Rattle.netting.specs.Sizes.{most_places}
 
 -- the places of securities end where those of cash begin
 abbrev first_cash : ℕ
@@ -52,7 +52,7 @@ module _ (amount : ℕ → ℤ) (m : Movement) (known : fits m ≡ true) where
       (λ (q : first_cash ≤ p). let apart = securities_apart m p known q in let keeps = leg_keeps amount (leg_of Cash m) p enough parts.1 in omega (arith, ints))
       (cases_lt p first_cash)
 
-  uncovered_lacks : covered amount m ≡ false → (p : ℕ) × (p < PLACES) × (left_at p <ℤ pos 0)
+  uncovered_lacks : covered amount m ≡ false → (p : ℕ) × (p < most_places) × (left_at p <ℤ pos 0)
   uncovered_lacks cover =
       ⊎_elim
       (λ (q : leg_covered amount (leg_of Securities m) ≡ false).

@@ -4,7 +4,6 @@ use lib.Signed.{lt_z}
 use Rattle.std.proofs.lemmas.Int.{ints}
 use Rattle.std.proofs.lemmas.Bool.{and_from}
 use Rattle.movement.specs.declared.movement.Movement.{Movement}
-use Rattle.netting.specs.declared.places.TheConstants.{PLACES}
 use Rattle.netting.specs.Places.{places, at, takes, brings, only_takes}
 use Rattle.netting.specs.Positions.{in_package, brought, taken, short}
 use Rattle.netting.specs.Strikes.{none_short}
@@ -12,6 +11,7 @@ use Rattle.netting.proofs.Within.{Fitting}
 use Rattle.netting.proofs.Legs.{takes_only}
 use Rattle.netting.proofs.Search.{none_at, none_all, none_fails}
 use Rattle.netting.proofs.Sums.{sum_exceeds}
+use Rattle.netting.specs.Sizes.{most_places}
 
 -- more is taken than is there and is brought
 taken_more : (a b t : ℕ) → lt_z (pos a +ℤ (pos b -ℤ pos t)) (pos 0) ≡ true → a + b < t
@@ -31,14 +31,14 @@ module _ (movements : List Movement) (amounts : List ℕ) (marks : List Bool) wh
       (taker.0, taker.1, and_from _ _ parts.0 (takes_only (at movements taker.0) p (fitting.fit taker.0 taker.1) parts.1))
 
   -- no place is short, as a fact of each place
-  pub none_short_at : none_short movements amounts marks ≡ true → (p : ℕ) → p < PLACES → short movements amounts marks p ≡ false
+  pub none_short_at : none_short movements amounts marks ≡ true → (p : ℕ) → p < most_places → short movements amounts marks p ≡ false
   unfolding places
   none_short_at = none_at (short movements amounts marks) places
 
-  pub none_short_all : ((p : ℕ) → p < PLACES → short movements amounts marks p ≡ false) → none_short movements amounts marks ≡ true
+  pub none_short_all : ((p : ℕ) → p < most_places → short movements amounts marks p ≡ false) → none_short movements amounts marks ≡ true
   unfolding places
   none_short_all = none_all (short movements amounts marks) places
 
-  pub some_short : (p : ℕ) → p < PLACES → short movements amounts marks p ≡ true → none_short movements amounts marks ≡ false
+  pub some_short : (p : ℕ) → p < most_places → short movements amounts marks p ≡ true → none_short movements amounts marks ≡ false
   unfolding places
   some_short = none_fails (short movements amounts marks) places

@@ -6,12 +6,12 @@ use Rattle.netting.specs.Places.{places, at, only_takes}
 use Rattle.netting.specs.Positions.{in_package, size, short}
 use Rattle.netting.specs.Strikes.{chosen_at, marked, first_short, none_short, struck_next, strike, after_strikes}
 use Rattle.netting.specs.Held.{Held, marking, is_short, is_taker, next_struck, with_strikes}
-use Rattle.netting.specs.declared.places.TheConstants.{PLACES}
 use Rattle.netting.specs.Search.{FindsFirst, FindsLast}
 use Rattle.netting.proofs.Within.{Fitting}
 use Rattle.netting.proofs.Search.{first_found, last_found, last_some, last_none, first_some, none_from, ends, times_same, times_less}
 use Rattle.netting.proofs.Sums.{marked_less}
 use Rattle.netting.proofs.Shortage.{short_taker}
+use Rattle.netting.specs.Sizes.{most_places}
 
 never_found : (i : ℕ) → ◌≡◌ {A = Option ℕ} None (Some i) → ⊥
 never_found i e = let z : ◌≡◌ {A = ℕ} 0 1 = cc in omega arith
@@ -53,11 +53,11 @@ module _ (movements : List Movement) (amounts : List ℕ) where
       none_struck (after_strikes movements amounts marks) fitting (ends (struck_next movements amounts) (strike movements amounts) (size movements) (λ _. Unit {0}) strike_still (λ w i _ e. (strike_shrinks w i e, tt)) marks tt)
 
 -- who is struck next, by what two searches find
-pub next_struck_none : (h : Held) → FindsFirst PLACES (is_short h) None → next_struck h ≡ None
+pub next_struck_none : (h : Held) → FindsFirst most_places (is_short h) None → next_struck h ≡ None
 unfolding places
 next_struck_none h none = ap (chosen_at h.movements h.marks) (first_found (is_short h) places None none)
 
-pub next_struck_by : (h : Held) (p : ℕ) (found : Option ℕ) → FindsFirst PLACES (is_short h) (Some p) → FindsLast (length h.movements) (is_taker h p) found → next_struck h ≡ found
+pub next_struck_by : (h : Held) (p : ℕ) (found : Option ℕ) → FindsFirst most_places (is_short h) (Some p) → FindsLast (length h.movements) (is_taker h p) found → next_struck h ≡ found
 unfolding places
 next_struck_by h p found first last = ap (chosen_at h.movements h.marks) (first_found (is_short h) places (Some p) first) ∙ last_found (is_taker h p) (length h.movements) found last
 

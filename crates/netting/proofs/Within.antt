@@ -6,14 +6,14 @@ use Rattle.std.proofs.lemmas.List.Sums.{AllPass-from_list_all}
 use Rattle.std.specs.List.{list_all}
 use Rattle.register.specs.Holdings.{limit}
 use Rattle.movement.specs.declared.movement.Movement.{Movement}
-use Rattle.netting.specs.declared.limits.TheConstants.{MOVEMENTS}
 use Rattle.netting.specs.Search.{none_below}
 use Rattle.netting.specs.Places.{at, nothing}
 use Rattle.netting.specs.Limits.{fits, falls, small, fitting, bounded}
 use Rattle.netting.proofs.Search.{none_at, none_all}
+use Rattle.movement.specs.Limits.{most_movements}
 
 pub record Fitting (movements : List Movement) : Type 0 where
-  pub few : length movements ≤ MOVEMENTS
+  pub few : length movements ≤ most_movements
   pub fit : (i : ℕ) → i < length movements → IsTrue (fits (at movements i))
 
 pub record Bounded (movements : List Movement) (amounts : List ℕ) : Type 0 where
@@ -24,7 +24,7 @@ pub record Bounded (movements : List Movement) (amounts : List ℕ) : Type 0 whe
 pub fitting_facts : (movements : List Movement) → IsTrue (fitting movements) → Fitting movements
 fitting_facts movements e =
     let parts = and_parts _ (list_all fits movements) e in
-    record { few = leb-true (length movements) MOVEMENTS parts.0; fit = λ i h. AllPass-from_list_all fits movements parts.1 i nothing h }
+    record { few = leb-true (length movements) most_movements parts.0; fit = λ i h. AllPass-from_list_all fits movements parts.1 i nothing h }
 
 -- the test of the order, from what it decides
 pub rising_is : (movements : List Movement) (test : Bool) → (IsTrue test ↔ ((i : ℕ) → i + 1 < length movements → falls movements i ≡ false)) → test ≡ none_below (length movements - 1) (falls movements)

@@ -4,9 +4,9 @@ use Rattle.std.specs.Prelude.{◌≡◌, ℕ, Bool, true, false, List, [], ◌�
 use Rattle.movement.specs.declared.movement.Movement.{Movement}
 use Rattle.movement.specs.declared.class.Class.TheVariants.{Central}
 use Rattle.movement.specs.declared.side.Side.TheVariants.{Securities, Cash}
-use Rattle.netting.specs.declared.places.TheConstants.{PLACES}
 use Rattle.netting.specs.Places.{place_of}
 use Rattle.netting.specs.Rejoins.{settling}
+use Rattle.netting.specs.Sizes.{most_places}
 
 pub record Case : Type 0 where
   pub movements : List Movement
@@ -16,7 +16,7 @@ pub record Case : Type 0 where
   pub settles : List Bool
 
 abbrev pub holding : List (ℕ × ℕ) → List ℕ
-holding [] = replicate PLACES 0
+holding [] = replicate most_places 0
 holding (h ∷ held) = slice_set (holding held) h.0 h.1
 
 -- all movements of the case are tried

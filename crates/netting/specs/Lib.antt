@@ -1,3 +1,4 @@
+pub mod Sizes
 pub mod Search
 pub mod Places
 pub mod Positions

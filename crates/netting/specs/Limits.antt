@@ -4,19 +4,18 @@ use Rattle.std.specs.List.{list_all}
 use Rattle.register.specs.Holdings.{limit}
 use Rattle.movement.specs.declared.movement.Movement.{Movement}
 use Rattle.movement.specs.declared.party.Party.{Party}
-use Rattle.netting.specs.declared.places.TheConstants.{ACCOUNTS, SECURITIES, CURRENCIES}
-use Rattle.netting.specs.declared.limits.TheConstants.{MOVEMENTS, MOST_MOVED}
 use Rattle.netting.specs.Search.{none_below}
 use Rattle.netting.specs.Places.{at}
+use Rattle.movement.specs.Limits.{currencies, most_accounts, most_moved, most_movements, most_securities}
 
 abbrev pub known_accounts : Party → Bool
-known_accounts party = nat_lt party.securities ACCOUNTS && nat_lt party.cash ACCOUNTS
+known_accounts party = nat_lt party.securities most_accounts && nat_lt party.cash most_accounts
 
 abbrev pub known_kinds : Movement → Bool
-known_kinds m = nat_lt m.security SECURITIES && nat_lt m.currency CURRENCIES
+known_kinds m = nat_lt m.security most_securities && nat_lt m.currency currencies
 
 abbrev pub amounts_fit : Movement → Bool
-amounts_fit m = nat_le m.quantity MOST_MOVED && nat_le m.sum MOST_MOVED
+amounts_fit m = nat_le m.quantity most_moved && nat_le m.sum most_moved
 
 -- a movement that can be netted
 abbrev pub fits : Movement → Bool
@@ -24,7 +23,7 @@ fits m = known_kinds m && amounts_fit m && known_accounts m.seller && known_acco
 
 -- movements that can be netted, whatever their order
 abbrev pub fitting : List Movement → Bool
-fitting movements = nat_le (length movements) MOVEMENTS && list_all fits movements
+fitting movements = nat_le (length movements) most_movements && list_all fits movements
 
 -- the next number is no higher
 abbrev pub falls : List Movement → ℕ → Bool

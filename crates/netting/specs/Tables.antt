@@ -3,13 +3,13 @@ use Rattle.std.specs.Prelude.{◌≡◌, ℕ, ◌+◌, ◌*◌, ◌<◌, ◌≤�
 use Rattle.register.specs.Holdings.{limit}
 use Rattle.movement.specs.declared.movement.Movement.{Movement}
 use Rattle.netting.specs.declared.leg.Leg.{Leg}
-use Rattle.netting.specs.declared.places.TheConstants.{PLACES}
-use Rattle.netting.specs.declared.limits.TheConstants.{MOVEMENTS, MOST_MOVED}
 use Rattle.netting.specs.Positions.{position}
+use Rattle.movement.specs.Limits.{most_moved, most_movements}
+use Rattle.netting.specs.Sizes.{most_places}
 
 -- a table of what places have after a package is posted, by what they had before
 abbrev pub Kept : (ℕ → ℤ) → List Movement → List Bool → List ℤ → Type 0
-Kept before movements marks table = (p : ℕ) → p < PLACES → slice_index_or table p (pos 0) ≡ before p +ℤ position movements marks p
+Kept before movements marks table = (p : ℕ) → p < most_places → slice_index_or table p (pos 0) ≡ before p +ℤ position movements marks p
 
 -- a change as a movement enters the package, or taken back as it leaves
 abbrev pub signed : Bool → ℤ → ℤ
@@ -23,18 +23,18 @@ Posted before after inside brings takes =
 
 -- how many legs a package has at most
 abbrev pub most_legs : ℕ
-most_legs = 2 * MOVEMENTS
+most_legs = 2 * most_movements
 
 -- no further from 0 than what a place can hold and so many legs can bring it
 pub record IsNear (legs : ℕ) (z : ℤ) : Type 0 where
-  pub above : neg_ℤ (pos (limit + legs * MOST_MOVED)) ≤ℤ z
-  pub below : z ≤ℤ pos (limit + legs * MOST_MOVED)
+  pub above : neg_ℤ (pos (limit + legs * most_moved)) ≤ℤ z
+  pub below : z ≤ℤ pos (limit + legs * most_moved)
 
 -- so is every place of a table
 abbrev pub IsRoomy : ℕ → List ℤ → Type 0
-IsRoomy legs table = (p : ℕ) → p < PLACES → IsNear legs (slice_index_or table p (pos 0))
+IsRoomy legs table = (p : ℕ) → p < most_places → IsNear legs (slice_index_or table p (pos 0))
 
 pub record LegFits (leg : Leg) : Type 0 where
-  pub from : leg.from < PLACES
-  pub to : leg.to < PLACES
-  pub amount : leg.amount ≤ MOST_MOVED
+  pub from : leg.from < most_places
+  pub to : leg.to < most_places
+  pub amount : leg.amount ≤ most_moved

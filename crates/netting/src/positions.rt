@@ -1,18 +1,19 @@
 //! What a package brings to places and takes from them.
 ghost use Rattle.std.specs.Prelude.{◌≡◌, ℕ, ◌+◌, ◌<◌, ◌≤◌, IsTrue, ◌&&◌, pos, ◌+ℤ◌, is_some, IfSome, if◌then◌else◌, nat_eq, nat_lt, slice_index_or};
+ghost use Rattle.netting.specs.Sizes.{most_places};
 ghost use Rattle.netting.specs.Places.{leg_takes, leg_brings, takes, brings};
 ghost use Rattle.netting.specs.Positions.{position as position_of};
 ghost use Rattle.netting.specs.Limits.{fits, fitting as fitting_of};
 ghost use Rattle.netting.specs.Tables.{Kept, Posted, IsNear, IsRoomy, LegFits, most_legs, signed as signed_of};
 
 use crate::leg::Leg;
-use crate::limits::{MOST_MOVED, MOVEMENTS, fitting};
+use crate::limits::{MOVEMENTS, fitting};
 use crate::places::PLACES;
-use movement::{Movement, Side};
+use movement::{MAX_MOVED, Movement, Side};
 
 // An amount as it stands, or taken back.
 fn signed(amount: u64, inside: bool) -> i64
-    requires { amount ≤ MOST_MOVED }
+    requires { amount ≤ MAX_MOVED }
     ensures { result ≡ signed_of inside (pos amount) }
 {
     if inside {
@@ -75,7 +76,7 @@ pub fn posted(
 /// The position of a place under a package. None past the last place, or where the movements cannot
 /// be netted.
 pub fn position(movements: &[Movement], marks: &[bool; MOVEMENTS], place: usize) -> Option<i64>
-    ensures answered { is_some result ≡ (nat_lt place PLACES && fitting_of movements.now) }
+    ensures answered { is_some result ≡ (nat_lt place most_places && fitting_of movements.now) }
     ensures value { IfSome result (λ z. z ≡ position_of movements.now marks.now place) }
 {
     if place < PLACES && fitting(movements) {

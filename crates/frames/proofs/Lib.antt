@@ -1,7 +1,7 @@
 pub mod Chunks
 pub mod Digits
 pub mod Feeding
-pub mod Numbers
+pub mod Fields
 pub mod Pairs
 pub mod Streams
 pub mod Table

@@ -1,5 +1,6 @@
 -- The line that answers a line.
 use Rattle.std.specs.Prelude.{◌≡◌, ℕ, ◌+◌, ◌-◌, ◌<◌, ◌≤◌, Bool, true, false, cond, List, [], ◌∷◌, ◌++◌, Ok, Err, vec_items, vec_len, vec_capacity, Result, Vec}
+use Rattle.std.specs.Int.{w64, to_be_bytes}
 use Rattle.fault.specs.declared.fault.Fault.{Fault}
 use Rattle.fault.specs.Numbers.{fault_number}
 use Rattle.book.specs.State.{State}
@@ -8,14 +9,13 @@ use Rattle.history.specs.declared.call.Answer.{Answer}
 use Rattle.history.specs.declared.call.Answer.TheVariants.{Done, Amount}
 use Rattle.history.specs.Step.{answer, after}
 use Rattle.history.specs.Law.{Performed}
-use Rattle.frames.specs.Bytes.{bytes_of}
 use Rattle.frames.specs.Hex.{hex_text}
 use Rattle.frames.specs.Calls.{line_call}
 
 -- what an accepted call answers after its 00
 abbrev pub result_bytes : Answer → List ℕ
 result_bytes Done = []
-result_bytes (Amount n) = bytes_of 8 n
+result_bytes (Amount n) = to_be_bytes w64 n
 
 -- 00 and the result, or FF and the number of the refusal
 abbrev pub answer_bytes : Result Answer Fault → List ℕ

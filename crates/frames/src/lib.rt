@@ -1,9 +1,9 @@
-// Lines of hexadecimal digits, and the bytes that they say.
+//! Lines of hexadecimal digits, and the bytes that they say.
 #![tactic(auto)]
 
 mod bytes;
+mod code;
 mod decoding;
-mod frame;
 mod hex;
 mod line;
 mod partial;
@@ -16,9 +16,8 @@ mod writing;
 
 pub use bytes::u64_bytes;
 pub use decoding::decode;
-pub use frame::Frame;
 pub use hex::digit;
-pub use line::unhex;
+pub use line::{Frame, MAX_FRAME, unhex};
 pub use partial::Partial;
 pub use reply::answer;
 pub use responding::respond;

@@ -10,7 +10,6 @@ mod partial;
 mod reply;
 mod responding;
 mod session;
-mod stream;
 mod text;
 mod writing;
 
@@ -18,7 +17,7 @@ pub use bytes::u64_bytes;
 pub use decoding::decode;
 pub use hex::digit;
 pub use line::{Frame, MAX_FRAME, unhex};
-pub use partial::Partial;
+pub use partial::{MAX_KEPT, Partial};
 pub use reply::answer;
 pub use responding::respond;
-pub use session::{feed, finish};
+pub use session::Session;

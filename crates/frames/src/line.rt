@@ -27,7 +27,7 @@ pub fn unhex(line: &[u8]) -> Option<Frame>
 fn has_right_length(count: usize) -> bool
     ensures { result ≡ right_length count }
 {
-    count >= 2 && count <= 2 * MAX_FRAME && count % 2 == 0
+    (2..=2 * MAX_FRAME).contains(&count) && count.is_multiple_of(2)
 }
 
 // The bytes of a line of the right length.

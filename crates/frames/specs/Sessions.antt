@@ -1,5 +1,5 @@
 -- Text that comes in chunks: the lines in it, and what they do one after the other.
-use Rattle.std.specs.Prelude.{◌≡◌, ℕ, ◌+◌, ◌*◌, ◌<◌, ◌≤◌, Bool, true, false, cond, List, [], ◌∷◌, ◌++◌, length, map, Ok, Err, vec_items, Result, Vec, ◌==◌}
+use Rattle.std.specs.Prelude.{◌≡◌, ℕ, ◌+◌, ◌*◌, ◌<◌, ◌≤◌, Bool, true, false, if◌then◌else◌, List, [], ◌∷◌, ◌++◌, length, map, Ok, Err, vec_items, Result, Vec, ◌==◌}
 use Rattle.fault.specs.declared.fault.Fault.{Fault}
 use Rattle.book.specs.Opening.{Opening}
 use Rattle.book.specs.State.{State}
@@ -9,18 +9,19 @@ use Rattle.history.specs.History.{Event, Leads, event}
 use Rattle.history.specs.Law.{Lawful}
 use Rattle.frames.specs.Calls.{line_call}
 use Rattle.frames.specs.Hex.{line_bytes}
-use Rattle.frames.specs.Replies.{after_line, answer_line, line_answer, longest, spare}
+use Rattle.frames.specs.Replies.{after_line, answer_line, line_answer, spare}
 use Rattle.frames.specs.Stream.{kept}
+use Rattle.frames.specs.declared.writing.TheConstants.{MAX_REPLY}
 
 -- the whole lines in the text of an unfinished line followed by a chunk: each newline ends one
 abbrev pub lines : List ℕ → List ℕ → List (List ℕ)
 lines p [] = []
-lines p (c ∷ cs) = cond (c == 10) (p ∷ lines [] cs) (lines (p ++ (c ∷ [])) cs)
+lines p (c ∷ cs) = if c == 10 then p ∷ lines [] cs else lines (p ++ c ∷ []) cs
 
 -- what is left of an unfinished line
 abbrev pub rest : List ℕ → List ℕ → List ℕ
 rest p [] = p
-rest p (c ∷ cs) = cond (c == 10) (rest [] cs) (rest (p ++ (c ∷ [])) cs)
+rest p (c ∷ cs) = if c == 10 then rest [] cs else rest (p ++ c ∷ []) cs
 
 -- at the end of the input what is left is a line too, unless nothing is
 abbrev pub last_line : List ℕ → List (List ℕ)
@@ -66,11 +67,11 @@ LinesLawful =
     (o : Opening) (h : List Event) (s : State) (ls : List (List ℕ)) → Leads o h s
     → Leads o (events s ls h) (after_lines s ls) × Lawful o (events s ls h) (after_lines s ls)
 
--- lines were answered, one after the other; each takes at most the longest line's room
+-- lines were answered, one after the other; each takes at most the MAX_REPLY line's room
 pub record LinesAnswered {Z : Type 0} (ls : List (List ℕ)) (s t : State) (out out' : Vec ℕ Z) : Type 0 where
   pub written : vec_items out' ≡ vec_items out ++ answers s ls
   pub becomes : t ≡ after_lines s ls
-  pub used : spare out ≤ spare out' + longest * length ls
+  pub used : spare out ≤ spare out' + MAX_REPLY * length ls
 
 -- the first of them were, and then room and memory were wanting
 pub record Stopped {Z : Type 0} (ls : List (List ℕ)) (s t : State) (out out' : Vec ℕ Z) : Type 0 where
@@ -78,7 +79,7 @@ pub record Stopped {Z : Type 0} (ls : List (List ℕ)) (s t : State) (out out' :
   pub others : List (List ℕ)
   pub all : ls ≡ first ++ others
   pub answered : LinesAnswered first s t out out'
-  pub stopped : spare out < longest * length ls
+  pub stopped : spare out < MAX_REPLY * length ls
 
 -- a chunk after the text p of an unfinished line: its lines were answered, and the first characters q of what is left are
 -- kept, or the first of the lines were answered
@@ -88,5 +89,5 @@ Fed p chunk s t out out' q false = Stopped (lines p chunk) s t out out'
 
 -- a last line was answered, or, where it was not done for want of room and memory, nothing changed
 pub record Ended {Z : Type 0} (ls : List (List ℕ)) (s t : State) (out out' : Vec ℕ Z) (done : Bool) : Type 0 where
-  pub answered : LinesAnswered (cond done ls []) s t out out'
-  pub stopped : done ≡ false → spare out < longest
+  pub answered : LinesAnswered (if done then ls else []) s t out out'
+  pub stopped : done ≡ false → spare out < MAX_REPLY

@@ -1,8 +1,9 @@
 //! A line of hexadecimal digits is read into its bytes.
-ghost use Rattle.std.specs.Prelude.{◌≡◌, ◌%◌, ◌≤◌, length};
+ghost use Rattle.std.specs.Prelude.{◌≡◌, ◌*◌, ◌%◌, ◌≤◌, length};
 ghost use Rattle.std.specs.Option.{option_map};
 ghost use Rattle.frames.specs.Frames.{frame_bytes};
-ghost use Rattle.frames.specs.Hex.{byte_of, digit_value, line_bytes, pairs, right_length};
+ghost use Rattle.frames.specs.declared.line.TheConstants.{MAX_FRAME};
+ghost use Rattle.frames.specs.Hex.{byte_of, digit_value, has_right_length, line_bytes, pairs};
 
 use crate::hex::digit;
 use arrayvec::ArrayVec;
@@ -25,14 +26,14 @@ pub fn unhex(line: &[u8]) -> Option<Frame>
 }
 
 fn has_right_length(count: usize) -> bool
-    ensures { result ≡ right_length count }
+    ensures { result ≡ has_right_length count }
 {
     (2..=2 * MAX_FRAME).contains(&count) && count.is_multiple_of(2)
 }
 
 // The bytes of a line of the right length.
 fn paired(line: &[u8]) -> Option<Frame>
-    requires short { length line.now ≤ 76 }
+    requires short { length line.now ≤ 2 * MAX_FRAME }
     requires even { length line.now % 2 ≡ 0 }
     ensures { option_map frame_bytes result ≡ pairs line.now }
 {

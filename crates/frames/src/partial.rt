@@ -2,11 +2,12 @@
 ghost use Rattle.std.specs.Prelude.{◌≡◌, [], ◌∷◌, ◌++◌, length, ◌==◌};
 ghost use Rattle.frames.specs.Stream.{CutAlike, kept};
 
+use crate::line::MAX_FRAME;
 use arrayvec::ArrayVec;
 use std::marker::Model;
 
 /// No more characters of a line are kept: one as long as this is refused whatever follows.
-pub const MAX_KEPT: usize = 77;
+pub const MAX_KEPT: usize = 2 * MAX_FRAME + 1;
 
 /// The first characters of a line that comes in parts. A clause sees them as a list.
 #[derive(Drop)]

@@ -22,8 +22,6 @@ pub fn answer<B: Settlement>(book: &mut B, line: &[u8]) -> Result<Answer, Fault>
 fn read(line: &[u8]) -> Result<Call, Fault>
     ensures { result ≡ line_call line.now }
 {
-    match unhex(line) {
-        Some(frame) => decode(frame.as_slice()),
-        None => Err(Fault::NoFrame),
-    }
+    let frame = unhex(line).ok_or(Fault::NoFrame)?;
+    decode(frame.as_slice())
 }

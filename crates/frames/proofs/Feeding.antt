@@ -1,6 +1,6 @@
 -- Lines that are answered one after the other.
-use Rattle.std.proofs.Common.{◌≡◌, ℕ, suc, ◌+◌, ◌-◌, List, [], ◌∷◌, ◌++◌, length, take, drop, map, Ok, Err, vec_items, Result, Vec, Bool, true, false, sym, refl, ap, ◌∙◌, append_assoc, append-nil, add-one, arith, length-append}
-use Rattle.std.proofs.lemmas.List.{drop-drop, take_rest}
+use Rattle.std.proofs.Common.{◌≡◌, ℕ, suc, ◌+◌, ◌-◌, ◌<◌, List, [], ◌∷◌, ◌++◌, length, take, drop, map, Ok, Err, vec_items, Result, Vec, Bool, true, false, sym, refl, ap, ◌∙◌, append_assoc, append-nil, add-one, arith, length-append}
+use Rattle.std.proofs.lemmas.List.{drop-drop, length-map, take_rest}
 use Rattle.fault.specs.declared.fault.Fault.{Fault}
 use Rattle.book.specs.Opening.{Opening}
 use Rattle.book.specs.State.{State}
@@ -8,10 +8,10 @@ use Rattle.history.specs.declared.call.Call.{Call}
 use Rattle.history.specs.History.{Event, Leads, goes}
 use Rattle.history.proofs.Lawfulness.{all_lawful}
 use Rattle.memchr.specs.Find.{NoneBefore, Nowhere}
-use Rattle.frames.specs.Calls.{line_call}
+use Rattle.frames.specs.Calls.{call_of, line_call}
 use Rattle.frames.specs.Hex.{line_bytes}
-use Rattle.frames.specs.Replies.{after_line, after_said, answer_line, line_answer}
-use Rattle.frames.specs.Sessions.{Ended, Fed, LinesAnswered, LinesLawful, Stopped, after_lines, answers, events, lines, rest, said_event}
+use Rattle.frames.specs.Replies.{after_line, after_said, answer_line, line_answer, said_answer}
+use Rattle.frames.specs.Sessions.{Ended, Fed, LinesAnswered, LinesLawful, Stopped, after_lines, answers, events, last_line, lines, rest, said_event}
 use Rattle.frames.specs.Stream.{kept}
 use Rattle.frames.proofs.Chunks.{Newline, first_line, no_line}
 
@@ -47,7 +47,34 @@ answered_more a b {s = s} {out = out} p q =
     let state = after_more s a b in
     let group = append_assoc (vec_items out) (answers s a) (answers (after_lines s a) b) in
     let long = length-append a b in
-    record { written = cc; becomes = cc; used = omega (arith, p.used, q.used) }
+    record { written = cc; becomes = cc; used = omega (arith, p.used, q.used); keeps_room = omega (arith, p.keeps_room, q.keeps_room) }
+
+-- ---- lines that say the same
+
+pub same_answers : (s : State) (a b : List (List ℕ)) → map line_bytes a ≡ map line_bytes b → (answers s a ≡ answers s b) × (after_lines s a ≡ after_lines s b)
+same_answers s [] [] e = (refl, refl)
+same_answers s [] (y ∷ b) e = absurd cc
+same_answers s (x ∷ a) [] e = absurd cc
+same_answers s (x ∷ a) (y ∷ b) e =
+    let first : line_bytes x ≡ line_bytes y = cc in
+    let others = same_answers (after_line s x) a b cc in
+    let next : after_line s x ≡ after_line s y = ap (λ said. after_said s (call_of said)) first in
+    let answer : line_answer s x ≡ line_answer s y = ap (λ said. said_answer s (call_of said)) first in
+    (rw (others.0, answer, next) refl, rw (others.1, next) refl)
+
+answered_alike : {Z : Type 0} (a b : List (List ℕ)) {s t : State} {out out' : Vec ℕ Z} → map line_bytes a ≡ map line_bytes b → LinesAnswered a s t out out' → LinesAnswered b s t out out'
+answered_alike a b {s = s} e p =
+    let same = same_answers s a b e in
+    let long : length a ≡ length b = sym (length-map a line_bytes) ∙ ap length e ∙ length-map b line_bytes in
+    record { written = rw same.0 at p.written; becomes = rw same.1 at p.becomes; used = rw long at p.used; keeps_room = p.keeps_room }
+
+pub ended_alike : {Z : Type 0} (a b : List (List ℕ)) {s t : State} {out out' : Vec ℕ Z} (done : Bool) → map line_bytes a ≡ map line_bytes b → Ended a s t out out' done → Ended b s t out out' done
+ended_alike a b true e p = record { answered = answered_alike a b e p.answered; stopped = p.stopped }
+ended_alike a b false e p = record { answered = p.answered; stopped = p.stopped }
+
+pub last_is : (p : List ℕ) → 0 < length p → last_line p ≡ p ∷ []
+last_is [] h = absurd (omega arith)
+last_is (c ∷ cs) h = refl
 
 -- ---- the lines of a chunk
 
@@ -64,7 +91,7 @@ begins p chunk s out =
       first = [];
       all = refl;
       tail = refl;
-      answered = record { written = sym (append-nil _); becomes = refl; used = omega arith };
+      answered = record { written = sym (append-nil _); becomes = refl; used = omega arith; keeps_room = omega arith };
     }
 
 module _ {Z : Type 0} {p chunk q left : List ℕ} {s t : State} {out out' : Vec ℕ Z} where

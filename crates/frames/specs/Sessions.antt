@@ -1,5 +1,6 @@
 -- Text that comes in chunks: the lines in it, and what they do one after the other.
-use Rattle.std.specs.Prelude.{◌≡◌, ℕ, ◌+◌, ◌*◌, ◌<◌, ◌≤◌, Bool, true, false, if◌then◌else◌, List, [], ◌∷◌, ◌++◌, length, map, Ok, Err, vec_items, Result, Vec, ◌==◌}
+use Rattle.std.specs.Prelude.{◌≡◌, ℕ, ◌+◌, ◌*◌, ◌<◌, ◌≤◌, Bool, true, false, if◌then◌else◌, List, [], ◌∷◌, ◌++◌, length, map, Ok, Err, Option, vec_items, vec_capacity, Result, Vec, ◌==◌}
+use Rattle.std.specs.Io.KnownBytes.{Appends}
 use Rattle.fault.specs.declared.fault.Fault.{Fault}
 use Rattle.book.specs.Opening.{Opening}
 use Rattle.book.specs.State.{State}
@@ -41,6 +42,10 @@ TextsAlike =
     × (kept (rest (kept p) chunk) ≡ kept (rest p chunk))
     × (map line_bytes (last_line (kept p)) ≡ map line_bytes (last_line p))
 
+-- all the lines of a text that follows an unfinished line
+abbrev pub text_lines : List ℕ → List ℕ → List (List ℕ)
+text_lines p text = lines p text ++ last_line (rest p text)
+
 -- the state after lines
 abbrev pub after_lines : State → List (List ℕ) → State
 after_lines s [] = s
@@ -67,11 +72,12 @@ LinesLawful =
     (o : Opening) (h : List Event) (s : State) (ls : List (List ℕ)) → Leads o h s
     → Leads o (events s ls h) (after_lines s ls) × Lawful o (events s ls h) (after_lines s ls)
 
--- lines were answered, one after the other; each takes at most the MAX_REPLY line's room
+-- lines were answered, one after the other; each takes at most the longest line's room, and gives none back
 pub record LinesAnswered {Z : Type 0} (ls : List (List ℕ)) (s t : State) (out out' : Vec ℕ Z) : Type 0 where
   pub written : vec_items out' ≡ vec_items out ++ answers s ls
   pub becomes : t ≡ after_lines s ls
   pub used : spare out ≤ spare out' + MAX_REPLY * length ls
+  pub keeps_room : vec_capacity out ≤ vec_capacity out'
 
 -- the first of them were, and then room and memory were wanting
 pub record Stopped {Z : Type 0} (ls : List (List ℕ)) (s t : State) (out out' : Vec ℕ Z) : Type 0 where
@@ -91,3 +97,8 @@ Fed p chunk s t out out' q false = Stopped (lines p chunk) s t out out'
 pub record Ended {Z : Type 0} (ls : List (List ℕ)) (s t : State) (out out' : Vec ℕ Z) (done : Bool) : Type 0 where
   pub answered : LinesAnswered (if done then ls else []) s t out out'
   pub stopped : done ≡ false → spare out < MAX_REPLY
+
+-- every line of a text that follows an unfinished line was answered into what a writer holds
+pub record Serves (p text : List ℕ) (s t : State) (held held' : Option (List ℕ)) : Type 0 where
+  pub written : Appends held held' (answers s (text_lines p text))
+  pub becomes : t ≡ after_lines s (text_lines p text)

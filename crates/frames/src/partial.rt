@@ -1,5 +1,6 @@
 //! What has come of a line so far.
-ghost use Rattle.std.specs.Prelude.{◌≡◌, [], ◌∷◌, ◌++◌, length, ◌==◌};
+ghost use Rattle.std.specs.Prelude.{◌≡◌, ◌≤◌, [], ◌∷◌, ◌++◌, length, ◌==◌};
+ghost use Rattle.frames.specs.declared.partial.TheConstants.{MAX_KEPT};
 ghost use Rattle.frames.specs.Stream.{CutAlike, kept};
 
 use crate::line::MAX_FRAME;
@@ -35,7 +36,8 @@ impl Partial {
 
     /// The characters that are kept.
     pub fn as_slice(&self) -> &[u8]
-        ensures { result.now ≡ self.now }
+        ensures value { result.now ≡ self.now }
+        ensures fits { length result.now ≤ MAX_KEPT }
     {
         self.characters.as_slice()
     }

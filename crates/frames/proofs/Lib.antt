@@ -3,6 +3,7 @@ pub mod Digits
 pub mod Feeding
 pub mod Fields
 pub mod Pairs
+pub mod Reading
 pub mod Streams
 pub mod Table
 pub mod Texts

@@ -9,6 +9,7 @@ mod line;
 mod partial;
 mod reply;
 mod responding;
+mod serving;
 mod session;
 mod text;
 mod writing;

@@ -9,7 +9,6 @@ mod line;
 mod partial;
 mod reply;
 mod responding;
-mod serving;
 mod session;
 mod text;
 mod writing;

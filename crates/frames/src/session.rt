@@ -1,12 +1,21 @@
 //! Lines come in chunks of text and are answered one after the other.
-ghost use Rattle.std.specs.Prelude.{◌≡◌, [], ◌∷◌, ◌++◌, is_ok, if◌then◌else◌, OnOk};
-ghost use Rattle.frames.specs.Sessions.{ChunksAlike, Ended, Fed, LinesLawful, TextsAlike, last_line};
+ghost use Rattle.std.specs.Prelude.{◌≡◌, ◌*◌, ◌<◌, ◌≤◌, [], ◌∷◌, ◌++◌, length, vec_len, vec_capacity, is_ok, if◌then◌else◌, IfOk, OnOk, IfSome};
+ghost use Rattle.std.specs.Io.KnownBytes.{Appends};
+ghost use Rattle.frames.specs.Sessions.{ChunksAlike, Ended, Fed, LinesLawful, Serves, TextsAlike, after_lines, answers, last_line, lines, rest};
+ghost use Rattle.frames.specs.Stream.{kept};
+ghost use Rattle.frames.specs.declared.writing.TheConstants.{MAX_REPLY};
 
 use crate::partial::Partial;
 use crate::responding::respond;
+use crate::writing::MAX_REPLY;
 use book::Settlement;
 use memchr::memchr;
-use std::alloc::AllocError;
+use std::alloc::{AllocError, Global};
+use std::io;
+use std::io::{ErrorKind, Read, Write};
+
+// How much is read at a time.
+const CHUNK: usize = 32_768;
 
 /// A book, and what has come of a line so far.
 #[derive(Drop)]
@@ -76,4 +85,90 @@ impl<B: Settlement> Session<B> {
         }
         Ok(())
     }
+
+    /// Answers each line that a reader has, the last one too where its end does not come. Memory is
+    /// wanted before anything is read, and not after that. After an error some of what was read may
+    /// be answered and its answers not written.
+    pub fn serve<R: Read, W: Write>(
+        &mut self,
+        alloc: Global,
+        input: &mut R,
+        output: &mut W,
+    ) -> io::Result<()>
+        ensures { OnOk result (IfSome (R.remaining input.old) (λ text. Serves self.old.pending text
+            (B.Settlement.state self.old.book) (B.Settlement.state self.new.book)
+            (W.contents output.old) (W.contents output.new))) }
+    {
+        let mut chunk = zeros(alloc, CHUNK)?;
+        let mut out = Vec::with_capacity(alloc, MAX_REPLY * CHUNK)?;
+        self.serve_by(&mut chunk, &mut out, input, output)
+    }
+
+    // The same, by what is read at a time and by room for the answers to that much.
+    fn serve_by<R: Read, W: Write>(
+        &mut self,
+        chunk: &mut [u8],
+        out: &mut Vec<u8>,
+        input: &mut R,
+        output: &mut W,
+    ) -> io::Result<()>
+        requires some { 0 < length chunk.old }
+        requires room { MAX_REPLY * length chunk.old ≤ vec_capacity out.old }
+        ensures { OnOk result (IfSome (R.remaining input.old) (λ text. Serves self.old.pending text
+            (B.Settlement.state self.old.book) (B.Settlement.state self.new.book)
+            (W.contents output.old) (W.contents output.new))) }
+    {
+        for _ in 0..u64::MAX {
+            let count = input.read(chunk)?;
+            if count == 0 {
+                self.answer_last(out, output)?;
+                return Ok(());
+            }
+            self.answer_chunk(&chunk[..count], out, output)?;
+        }
+        Err(io::Error::from(ErrorKind::FileTooLarge))
+    }
+
+    // Answers a chunk and writes the answers, for which there is room.
+    fn answer_chunk<W: Write>(
+        &mut self,
+        chunk: &[u8],
+        out: &mut Vec<u8>,
+        output: &mut W,
+    ) -> io::Result<()>
+        requires { MAX_REPLY * length chunk.now ≤ vec_capacity out.old }
+        ensures written { OnOk result (Appends (W.contents output.old) (W.contents output.new)
+            (answers (B.Settlement.state self.old.book) (lines self.old.pending chunk.now))) }
+        ensures becomes { B.Settlement.state self.new.book
+            ≡ after_lines (B.Settlement.state self.old.book) (lines self.old.pending chunk.now) }
+        ensures keeps { self.new.pending ≡ kept (rest self.old.pending chunk.now) }
+        ensures room { vec_capacity out.old ≤ vec_capacity out.new }
+    {
+        out.clear();
+        self.feed(chunk, out).unwrap();
+        output.write_all(out)?;
+        output.flush()
+    }
+
+    // Answers the line whose end has not come, and writes the answer, for which there is room.
+    fn answer_last<W: Write>(&mut self, out: &mut Vec<u8>, output: &mut W) -> io::Result<()>
+        requires { MAX_REPLY ≤ vec_capacity out.old }
+        ensures written { OnOk result (Appends (W.contents output.old) (W.contents output.new)
+            (answers (B.Settlement.state self.old.book) (last_line self.old.pending))) }
+        ensures becomes { B.Settlement.state self.new.book
+            ≡ after_lines (B.Settlement.state self.old.book) (last_line self.old.pending) }
+    {
+        out.clear();
+        self.finish(out).unwrap();
+        output.write_all(out)?;
+        output.flush()
+    }
+}
+
+
+// Room for what is read at a time.
+fn zeros(alloc: Global, len: usize) -> Result<Vec<u8>, AllocError>
+    ensures { IfOk result (λ v. vec_len v ≡ len) }
+{
+    vec![in alloc; 0; len]
 }

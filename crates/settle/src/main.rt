@@ -3,6 +3,8 @@
 
 mod opening;
 mod settling;
+#[cfg(test)]
+mod tests;
 
 use crate::settling::settle;
 

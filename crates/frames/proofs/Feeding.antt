@@ -1,5 +1,5 @@
 -- Lines that are answered one after the other.
-use Rattle.std.proofs.Common.{◌≡◌, ℕ, suc, ◌+◌, ◌-◌, ◌<◌, List, [], ◌∷◌, ◌++◌, length, take, drop, map, Ok, Err, vec_items, Result, Vec, Bool, true, false, sym, refl, ap, ◌∙◌, append_assoc, append-nil, add-one, arith, length-append}
+use Rattle.std.proofs.Common.{◌≡◌, ℕ, suc, ◌-◌, ◌<◌, List, [], ◌∷◌, ◌++◌, length, take, drop, map, Ok, Err, vec_items, Result, Vec, Bool, true, false, sym, refl, ap, ◌∙◌, append_assoc, append-nil, add-one, arith, length-append}
 use Rattle.std.proofs.lemmas.List.{drop-drop, length-map, take_rest}
 use Rattle.fault.specs.declared.fault.Fault.{Fault}
 use Rattle.book.specs.Opening.{Opening}
@@ -11,7 +11,7 @@ use Rattle.memchr.specs.Find.{NoneBefore, Nowhere}
 use Rattle.frames.specs.Calls.{call_of, line_call}
 use Rattle.frames.specs.Hex.{line_bytes}
 use Rattle.frames.specs.Replies.{after_line, after_said, answer_line, line_answer, said_answer}
-use Rattle.frames.specs.Sessions.{Ended, Fed, LinesAnswered, LinesLawful, Stopped, after_lines, answers, events, last_line, lines, rest, said_event}
+use Rattle.frames.specs.Sessions.{Ended, Fed, LinesAnswered, LinesLawful, after_lines, answers, events, last_line, lines, rest, said_event}
 use Rattle.frames.specs.Stream.{kept}
 use Rattle.frames.proofs.Chunks.{Newline, first_line, no_line}
 
@@ -108,7 +108,7 @@ module _ {Z : Type 0} {p chunk q left : List ℕ} {s t : State} {out out' : Vec 
       let next = first_line q left n found is in
       let group = append_assoc w.first ((q ++ part) ∷ []) (lines [] (drop (suc n) left)) in
       let left_is : take (length after - 1) (drop 1 after) ≡ drop (suc n) left =
-          take_rest after 1 ∙ ap (drop 1) after_is ∙ drop-drop 1 n left ∙ ap (λ k. drop k left) (add-one n) in
+      take_rest after 1 ∙ ap (drop 1) after_is ∙ drop-drop 1 n left ∙ ap (λ k. drop k left) (add-one n) in
       record {
         first = w.first ++ ((q ++ part) ∷ []);
         all = rw (clear, left_is) cc;

@@ -5,5 +5,4 @@ pub mod Fields
 pub mod Pairs
 pub mod Reading
 pub mod Streams
-pub mod Table
 pub mod Texts

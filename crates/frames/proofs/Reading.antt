@@ -1,9 +1,9 @@
 -- A text that is read in chunks.
-use Rattle.std.proofs.Common.{◌≡◌, ℕ, ◌*◌, ◌≤◌, Bool, true, false, List, [], ◌∷◌, ◌++◌, length, map, Option, Vec, sym, refl, ap, subst, ◌∙◌, arith}
+use Rattle.std.proofs.Common.{◌≡◌, ℕ, ◌*◌, ◌≤◌, Bool, true, false, List, [], ◌∷◌, ◌++◌, length, take, map, Option, Vec, sym, refl, ap, subst, ◌∙◌, append-nil, arith}
 use Rattle.std.proofs.lemmas.List.{take-take}
 use Rattle.std.proofs.lemmas.Bool.Decides.{nat_tests}
-use Rattle.std.specs.Io.KnownBytes.{Appends}
-use Rattle.std.proofs.KnownBytes.{Appends-trans}
+use Rattle.std.specs.Io.KnownBytes.{Appends, Consumes}
+use Rattle.std.proofs.KnownBytes.{Appends-trans, Consumes-trans}
 use Rattle.book.specs.State.{State}
 use Rattle.frames.specs.Hex.{line_bytes}
 use Rattle.frames.specs.Replies.{spare}
@@ -39,6 +39,11 @@ same_texts q r chunk e =
       sym left ∙ ap (λ k. kept (rest k chunk)) e ∙ left',
       sym last ∙ ap (λ k. map line_bytes (last_line k)) e ∙ last',
     )
+
+-- a read that gave nothing
+pub nothing_more : (a b c : Option (List ℕ)) (text buf : List ℕ) (n : ℕ) → n ≡ 0 → Consumes a b text → Consumes b c (take n buf) → Consumes a c text
+nothing_more a b c text buf n none p q =
+    subst (Consumes a c) (ap (λ k. text ++ take k buf) none ∙ append-nil text) (Consumes-trans a b c text (take n buf) p q)
 
 -- the whole lines of the text after p that was read so far are answered, and q is kept of the rest
 pub record IsRead (p text q : List ℕ) (s t : State) (held held' : Option (List ℕ)) : Type 0 where

@@ -69,6 +69,8 @@ impl Partial {
         ensures same { CutAlike }
     {
         let count = part.len().min(self.characters.remaining_capacity());
-        self.characters.try_extend_from_slice(&part[..count]).unwrap();
+        self.characters
+            .try_extend_from_slice(&part[..count])
+            .unwrap();
     }
 }

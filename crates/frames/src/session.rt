@@ -101,11 +101,11 @@ impl<B: Settlement> Session<B> {
     {
         let mut chunk = zeros(alloc, CHUNK)?;
         let mut out = Vec::with_capacity(alloc, MAX_REPLY * CHUNK)?;
-        self.serve_by(&mut chunk, &mut out, input, output)
+        self.serve_with(&mut chunk, &mut out, input, output)
     }
 
-    // The same, by what is read at a time and by room for the answers to that much.
-    fn serve_by<R: Read, W: Write>(
+    // The same, with room for what is read at a time and for the answers to that much.
+    fn serve_with<R: Read, W: Write>(
         &mut self,
         chunk: &mut [u8],
         out: &mut Vec<u8>,
@@ -164,7 +164,6 @@ impl<B: Settlement> Session<B> {
         output.flush()
     }
 }
-
 
 // Room for what is read at a time.
 fn zeros(alloc: Global, len: usize) -> Result<Vec<u8>, AllocError>

@@ -12,11 +12,7 @@ use std::io;
 use std::io::{Read, Write};
 
 /// Answers every line of the input, by a book that is opened on day 0 with nothing on the accounts.
-pub fn settle<R: Read, W: Write>(
-    alloc: Global,
-    input: &mut R,
-    output: &mut W,
-) -> io::Result<()>
+pub fn settle<R: Read, W: Write>(alloc: Global, input: &mut R, output: &mut W) -> io::Result<()>
     ensures { OnOk result (IfSome (R.remaining input.old) (λ text.
         Appends (W.contents output.old) (W.contents output.new)
         (answers (opened (opens_on (nothing 4 8) (nothing 2 8) 0)) (text_lines [] text)))) }

@@ -1,4 +1,4 @@
-use Rattle.std.proofs.Common.{◌≡◌, drop, refl, ◌∙◌, arith}
+use Rattle.std.proofs.Common.{refl, ◌∙◌, arith}
 use Rattle.std.specs.Int.{w16, w32, w64}
 use Rattle.frames.proofs.Fields.{byte_on, left_on, number_on, side_on}
 use Rattle.frames.proofs.decoding.trade_in.Goals as goal

@@ -1,9 +1,9 @@
 -- The lines of what is read so far are answered, and there is room for the answers to a chunk.
-use Rattle.std.proofs.Common.{◌≡◌, ◌*◌, ◌<◌, ◌≤◌, ℕ, List, length, vec_capacity}
+use Rattle.std.proofs.Common.{◌*◌, ◌<◌, ◌≤◌, ℕ, List, length, vec_capacity}
 use Rattle.std.specs.Io.KnownBytes.{Consumes}
 use Rattle.frames.specs.declared.writing.TheConstants.{MAX_REPLY}
 use Rattle.frames.proofs.Reading.{IsRead}
-use Rattle.frames.proofs.session.Session.serve_by.Given as goal
+use Rattle.frames.proofs.session.Session.serve_with.Given as goal
 
 abbrev pub invariant-loop : goal.invariant-loop
 invariant-loop g l = (text : List ℕ)

@@ -3,13 +3,13 @@ use Rattle.std.specs.Prelude.{vec_items}
 use Rattle.register.specs.Holdings.{Holdings}
 use Rattle.book.specs.declared.book.Book.{Book}
 use Rattle.book.specs.declared.daybook.Daybook.{Daybook}
-use Rattle.movement.specs.Terms.{agreed}
+use Rattle.movement.specs.Terms.{accounts_of, agreed}
 use Rattle.book.specs.Daily.{Daily}
 use Rattle.book.specs.State.{State}
 
 abbrev pub daily_of : Daybook → Daily
 daily_of d = record {
-  accounts = d.accounts;
+  accounts = accounts_of d.terms;
   kinds = d.kinds;
   day = d.day;
   half = d.half;

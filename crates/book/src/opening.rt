@@ -5,10 +5,10 @@ ghost use Rattle.book.specs.Opening.{failed_question, morning, noted as noted_nu
 ghost use Rattle.fault.specs.Questions.{unless};
 
 use crate::book::Book;
-use crate::daybook::{Daybook, MOST_MOVEMENTS};
+use crate::daybook::Daybook;
 use crate::sums::within_limit;
 use fault::Fault;
-use movement::{Half, Terms};
+use movement::{Half, MAX_MOVEMENTS, Terms};
 use register::Register;
 use std::alloc::{AllocError, Global};
 
@@ -45,14 +45,13 @@ impl Daybook {
     fn new(heap: Global, accounts: u8, kinds: u8, day: u32) -> Result<Daybook, AllocError>
         ensures { IfOk result (λ d. daily_of d ≡ morning accounts kinds day) }
     {
-        let movements = Vec::with_capacity(heap, MOST_MOVEMENTS)?;
+        let movements = Vec::with_capacity(heap, MAX_MOVEMENTS)?;
         Ok(Daybook {
-            accounts,
             kinds,
             day,
             half: Half::Morning,
             highest: 0,
-            terms: Terms::new(),
+            terms: Terms::new(accounts),
             movements,
         })
     }

@@ -6,12 +6,9 @@ ghost use Rattle.book.specs.Daily.{basic_questions, cancellable, class_known, on
 ghost use Rattle.book.specs.Found.{FoundAt};
 ghost use Rattle.book.specs.Trading.{AgreedTo, Cancelled, ConsentedTo, Entered};
 
-use crate::daybook::{Daybook, MOST_MOVEMENTS};
+use crate::daybook::Daybook;
 use fault::Fault;
-use movement::{Class, Half, Movement, Setting, Trade, form};
-
-// The largest quantity and sum of a trade.
-const MOST_TRADED: u64 = 1_000_000_000_000;
+use movement::{Class, Half, MAX_MOVED, MAX_MOVEMENTS, Movement, Setting, Trade, form};
 
 // How many days ahead a trade can settle.
 const LONGEST_WAIT: u32 = 30;
@@ -21,7 +18,7 @@ impl Daybook {
     pub(crate) fn agree(&mut self, setting: Setting) -> Result<(), Fault>
         ensures { AgreedTo (daily_of self.old) setting result (daily_of self.new) }
     {
-        self.terms.agree(self.accounts, setting)
+        self.terms.agree(setting)
     }
 
     // Asks what is asked of a trade before its sides, and answers its class.
@@ -31,19 +28,17 @@ impl Daybook {
         if trade.number < 1 || trade.number <= self.highest {
             return Err(Fault::TradeNumber);
         }
-        let Some(class) = Class::of(trade.class) else {
-            return Err(Fault::UnknownClass);
-        };
+        let class = Class::try_from(trade.class)?;
         if trade.security >= self.kinds {
             return Err(Fault::UnknownSecurity);
         }
-        if trade.quantity < 1 || trade.quantity > MOST_TRADED {
+        if trade.quantity < 1 || trade.quantity > MAX_MOVED {
             return Err(Fault::QuantityRange);
         }
         if trade.currency >= 2 {
             return Err(Fault::UnknownCurrency);
         }
-        if trade.sum < 1 || trade.sum > MOST_TRADED {
+        if trade.sum < 1 || trade.sum > MAX_MOVED {
             return Err(Fault::TradeSum);
         }
         let day = u32::from(trade.day);
@@ -59,8 +54,8 @@ impl Daybook {
         ensures room { is_ok result ≡ true → vec_len self.now.movements < 128 }
     {
         let class = self.class_of(trade)?;
-        let movement = form(&self.terms, self.accounts, class, trade)?;
-        if self.movements.len() >= MOST_MOVEMENTS {
+        let movement = form(&self.terms, class, trade)?;
+        if self.movements.len() >= MAX_MOVEMENTS {
             return Err(Fault::BookFull);
         }
         Ok(movement)

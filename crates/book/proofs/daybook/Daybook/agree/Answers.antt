@@ -1,5 +1,5 @@
-use Rattle.movement.specs.Terms.{agreed}
-use Rattle.movement.proofs.Fitting.{changed_fit}
+use Rattle.std.proofs.Common.{vec_items, ap, ◌∙◌}
+use Rattle.movement.specs.Bounds.{all_fit}
 use Rattle.book.proofs.daybook.Daybook.agree.Goals as goal
 
 pub invariant_of-self : goal.invariant_of-self
@@ -8,6 +8,5 @@ invariant_of-self c =
     record {
       few = self.few;
       room = self.room;
-      agreements = changed_fit self.accounts (agreed self.terms) c.args.setting self.agreements c.agree.ensures;
-      bounds = self.bounds;
+      bounds = ap (λ a. all_fit a self.kinds (vec_items self.movements)) c.agree.ensures.accounts ∙ self.bounds;
     }

@@ -1,5 +1,6 @@
 use Rattle.std.proofs.Common.{vec_items, ap, ◌∙◌, rules}
 use Rattle.movement.specs.Bounds.{all_fit}
+use Rattle.movement.specs.Terms.{accounts_of}
 use Rattle.movement.proofs.Fitting.{fit_removed}
 use Rattle.book.proofs.daybook.Daybook.cancel.Goals as goal
 
@@ -9,6 +10,5 @@ invariant_of-self c =
     record {
       few = search rules;
       room = search rules;
-      agreements = self.agreements;
-      bounds = ap (all_fit self.accounts self.kinds) c.remove.ensures.items ∙ fit_removed self.accounts self.kinds (vec_items self.movements) c.in-Some.i self.bounds;
+      bounds = ap (all_fit (accounts_of self.terms) self.kinds) c.remove.ensures.items ∙ fit_removed (accounts_of self.terms) self.kinds (vec_items self.movements) c.in-Some.i self.bounds;
     }

@@ -2,6 +2,7 @@ use Rattle.std.proofs.Common.{◌≡◌, true, set, Some, vec_items, sym, ap, �
 use Rattle.fault.proofs.Asking.{accepted}
 use Rattle.movement.specs.Bounds.{movement_fits}
 use Rattle.movement.specs.Consents.{consented}
+use Rattle.movement.specs.Terms.{accounts_of}
 use Rattle.movement.proofs.Fitting.{fit_at, fit_set}
 use Rattle.book.specs.Books.{daily_of}
 use Rattle.book.specs.Daily.{with_movements, on_book}
@@ -25,11 +26,10 @@ invariant_of-self c =
     let self = c.args.self.now in
     let ms = vec_items self.movements in
     let m = c.index.result.now in
-    let fits : movement_fits self.accounts self.kinds m ≡ true =
-    rw c.index.ensures (fit_at self.accounts self.kinds ms c.in-Some.i m self.bounds c.in-Some.ensures.within) in
+    let fits : movement_fits (accounts_of self.terms) self.kinds m ≡ true =
+    rw c.index.ensures (fit_at (accounts_of self.terms) self.kinds ms c.in-Some.i m self.bounds c.in-Some.ensures.within) in
     record {
       few = search rules;
       room = search rules;
-      agreements = self.agreements;
-      bounds = fit_set self.accounts self.kinds ms c.in-Some.i c.consented.result self.bounds (rw c.consented.ensures fits);
+      bounds = fit_set (accounts_of self.terms) self.kinds ms c.in-Some.i c.consented.result self.bounds (rw c.consented.ensures fits);
     }

@@ -17,8 +17,8 @@ returns-in_err-movement c =
       room = search rules;
     }
 
-pub returns-then-len-ge-MOST_MOVEMENTS : goal.returns-then-len-ge-MOST_MOVEMENTS
-returns-then-len-ge-MOST_MOVEMENTS c =
+pub returns-then-len-ge-MAX_MOVEMENTS : goal.returns-then-len-ge-MAX_MOVEMENTS
+returns-then-len-ge-MAX_MOVEMENTS c =
     record {
       formed = sym (refused_last (daily_of c.args.self.now) c.args.trade (sym c.in_ok-class.ensures) (sym c.in_ok-movement.ensures) (omega arith));
       room = search rules;

@@ -3,6 +3,7 @@ use Rattle.std.proofs.lemmas.Result.{err_from_is_err_and}
 use Rattle.fault.specs.Questions.{first_no}
 use Rattle.fault.proofs.Asking.{asked_fault, asked_value, accepted, refused, unless_none}
 use Rattle.movement.specs.Bounds.{all_fit, movement_fits}
+use Rattle.movement.specs.Terms.{accounts_of}
 use Rattle.movement.proofs.Fitting.{fit_push}
 use Rattle.book.specs.Books.{daily_of}
 use Rattle.book.specs.Daily.{trade_questions, traded, with_movements}
@@ -27,15 +28,14 @@ invariant_of-self c =
     let formed = sym c.in_ok-movement.ensures.formed in
     let same = (asked_value (trade_questions d c.args.trade) (traded d c.args.trade) (traded d c.args.trade) formed).0 in
     let passed = (unless_none (first_no (trade_questions d c.args.trade)) (Ok (traded d c.args.trade)) _ formed).0 in
-    let fits : movement_fits self.accounts self.kinds c.in_ok-movement.movement ≡ true =
-    ap (movement_fits self.accounts self.kinds) (sym same) ∙ trade_fits d c.args.trade self.agreements passed in
-    let after : all_fit self.accounts self.kinds (vec_items c.push_reserved.new.self) ≡ true =
-    ap (all_fit self.accounts self.kinds) c.push_reserved.ensures.items
-    ∙ fit_push self.accounts self.kinds (vec_items self.movements) c.in_ok-movement.movement self.bounds fits in
+    let fits : movement_fits (accounts_of self.terms) self.kinds c.in_ok-movement.movement ≡ true =
+    ap (movement_fits (accounts_of self.terms) self.kinds) (sym same) ∙ trade_fits d c.args.trade self.terms.fit passed in
+    let after : all_fit (accounts_of self.terms) self.kinds (vec_items c.push_reserved.new.self) ≡ true =
+    ap (all_fit (accounts_of self.terms) self.kinds) c.push_reserved.ensures.items
+    ∙ fit_push (accounts_of self.terms) self.kinds (vec_items self.movements) c.in_ok-movement.movement self.bounds fits in
     record {
       few = search rules;
       room = search rules;
-      agreements = self.agreements;
       bounds = after;
     }
 

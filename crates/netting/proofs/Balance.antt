@@ -6,7 +6,7 @@ use Rattle.register.specs.Holdings.{sum_below}
 use Rattle.movement.specs.declared.movement.Movement.{Movement}
 use Rattle.movement.specs.Movements.{giver, receiver, payer, payee}
 use Rattle.movement.specs.declared.side.Side.TheVariants.{Securities, Cash}
-use Rattle.netting.specs.declared.places.TheConstants.{ACCOUNTS}
+use Rattle.movement.specs.declared.limits.TheConstants.{MAX_ACCOUNTS}
 use Rattle.netting.specs.Places.{accounts, place, row_of, place_of, at, takes, brings}
 use Rattle.netting.specs.Positions.{in_package}
 use Rattle.netting.specs.Limits.{fits}
@@ -16,7 +16,7 @@ use Rattle.register.proofs.Sums.{sum_same, sum_changed}
 use Rattle.netting.proofs.Sums.{sum_of_both, sum_of_none, sum_exchanged}
 
 -- an amount at one place, summed over the accounts of a row
-row_sum : (row of account n : ℕ) → account < ACCOUNTS → sum_below accounts (λ a. cond (eqb (place row a) (place of account)) n 0) ≡ cond (eqb row of) n 0
+row_sum : (row of account n : ℕ) → account < MAX_ACCOUNTS → sum_below accounts (λ a. cond (eqb (place row a) (place of account)) n 0) ≡ cond (eqb row of) n 0
 unfolding accounts
 row_sum row of account n known =
     ⊎_elim

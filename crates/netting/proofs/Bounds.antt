@@ -4,11 +4,12 @@ use Rattle.std.proofs.lemmas.Int.{ints}
 use Rattle.std.proofs.lemmas.Bool.{cond_both}
 use Rattle.register.specs.Holdings.{limit}
 use Rattle.movement.specs.declared.movement.Movement.{Movement}
+use Rattle.movement.specs.declared.limits.TheConstants.{MAX_MOVED}
+use Rattle.netting.specs.declared.limits.TheConstants.{MOVEMENTS}
+use Rattle.netting.specs.declared.places.TheConstants.{PLACES}
 use Rattle.netting.specs.Places.{at, takes, brings}
 use Rattle.netting.specs.Positions.{sum_marked, in_package, position_by}
 use Rattle.netting.proofs.Within.{Fitting}
-use Rattle.netting.specs.declared.places.TheConstants.{PLACES}
-use Rattle.netting.specs.declared.limits.TheConstants.{MOVEMENTS, MOST_MOVED}
 use Rattle.netting.specs.Tables.{Kept, IsNear, IsRoomy, most_legs}
 use Rattle.netting.proofs.Legs.{takes_most, brings_most}
 use Rattle.register.proofs.Sums.{sum_bound}
@@ -17,9 +18,9 @@ pub amount_near : (amount : ℕ) → amount ≤ limit → IsNear 0 (pos amount)
 amount_near amount h = record { above = omega (arith, ints); below = omega (arith, ints) }
 
 -- a sum over at most so many that are marked
-marked_most : (n : ℕ) (marks : List Bool) (f : ℕ → ℕ) → n ≤ MOVEMENTS → ((i : ℕ) → i < n → f i ≤ 2 * MOST_MOVED) → sum_marked n marks f ≤ most_legs * MOST_MOVED
+marked_most : (n : ℕ) (marks : List Bool) (f : ℕ → ℕ) → n ≤ MOVEMENTS → ((i : ℕ) → i < n → f i ≤ 2 * MAX_MOVED) → sum_marked n marks f ≤ most_legs * MAX_MOVED
 marked_most n marks f few each =
-    let bound = sum_bound (λ i. cond (in_package marks i) (f i) 0) (2 * MOST_MOVED) n (λ i h. cond_both (in_package marks i) (f i) 0 (λ x. x ≤ 2 * MOST_MOVED) (λ _. each i h) (λ _. omega arith)) in
+    let bound = sum_bound (λ i. cond (in_package marks i) (f i) 0) (2 * MAX_MOVED) n (λ i h. cond_both (in_package marks i) (f i) 0 (λ x. x ≤ 2 * MAX_MOVED) (λ _. each i h) (λ _. omega arith)) in
     omega arith
 
 -- so is what a place has after posting

@@ -6,8 +6,8 @@ use Rattle.std.proofs.lemmas.Bool.{cases_lt, cases_eq, cases_Bool, and_parts, an
 use Rattle.std.proofs.lemmas.Bool.Decides.{nat_tests}
 use Rattle.movement.specs.declared.movement.Movement.{Movement}
 use Rattle.movement.specs.declared.side.Side.TheVariants.{Securities, Cash}
-use Rattle.netting.specs.declared.leg.Leg.{Leg}
 use Rattle.netting.specs.declared.places.TheConstants.{PLACES}
+use Rattle.netting.specs.declared.leg.Leg.{Leg}
 use Rattle.netting.specs.Places.{at, place_of, leg_takes, leg_brings, leg_of, takes, brings}
 use Rattle.netting.specs.Positions.{in_package, after_posting}
 use Rattle.netting.specs.Strikes.{none_short}

@@ -5,9 +5,9 @@ use Rattle.std.proofs.lemmas.Bool.Decides.{nat_tests}
 use Rattle.movement.specs.declared.movement.Movement.{Movement}
 use Rattle.movement.specs.declared.side.Side.{Side}
 use Rattle.movement.specs.declared.side.Side.TheVariants.{Securities, Cash}
+use Rattle.movement.specs.declared.limits.TheConstants.{MAX_MOVED}
 use Rattle.netting.specs.declared.leg.Leg.{Leg}
 use Rattle.netting.specs.Places.{leg_of, leg_takes, leg_brings, takes, brings, only_takes}
-use Rattle.netting.specs.declared.limits.TheConstants.{MOST_MOVED}
 use Rattle.netting.specs.Limits.{fits}
 use Rattle.netting.specs.Tables.{LegFits, IsNear, signed}
 
@@ -36,7 +36,7 @@ near_posted legs leg false x y p fits near e =
     record { above = omega (arith, ints, near.above); below = omega (arith, ints, near.below) }
 
 -- a change fits the type of positions
-pub signed_fits : (inside : Bool) (n : ℕ) → n ≤ MOST_MOVED → to_z w64 (of_z w64 (signed inside (pos n))) ≡ signed inside (pos n)
+pub signed_fits : (inside : Bool) (n : ℕ) → n ≤ MAX_MOVED → to_z w64 (of_z w64 (signed inside (pos n))) ≡ signed inside (pos n)
 signed_fits true n h = omega (arith, ints)
 signed_fits false n h = omega (arith, ints)
 
@@ -61,10 +61,10 @@ pub signed_both : (inside : Bool) (a b c d : ℕ) → signed inside (pos (a + b)
 signed_both true a b c d = omega (arith, ints)
 signed_both false a b c d = omega (arith, ints)
 
-pub takes_most : (m : Movement) (p : ℕ) → fits m ≡ true → takes m p ≤ 2 * MOST_MOVED
+pub takes_most : (m : Movement) (p : ℕ) → fits m ≡ true → takes m p ≤ 2 * MAX_MOVED
 takes_most m p h = grind (arith, nat_tests)
 
-pub brings_most : (m : Movement) (p : ℕ) → fits m ≡ true → brings m p ≤ 2 * MOST_MOVED
+pub brings_most : (m : Movement) (p : ℕ) → fits m ≡ true → brings m p ≤ 2 * MAX_MOVED
 brings_most m p h = grind (arith, nat_tests)
 
 -- what takes more than it brings takes without bringing

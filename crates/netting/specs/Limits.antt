@@ -4,19 +4,19 @@ use Rattle.std.specs.List.{list_all}
 use Rattle.register.specs.Holdings.{limit}
 use Rattle.movement.specs.declared.movement.Movement.{Movement}
 use Rattle.movement.specs.declared.party.Party.{Party}
-use Rattle.netting.specs.declared.places.TheConstants.{ACCOUNTS, SECURITIES, CURRENCIES}
-use Rattle.netting.specs.declared.limits.TheConstants.{MOVEMENTS, MOST_MOVED}
+use Rattle.movement.specs.declared.limits.TheConstants.{MAX_ACCOUNTS, MAX_SECURITIES, CURRENCIES, MAX_MOVED}
+use Rattle.netting.specs.declared.limits.TheConstants.{MOVEMENTS}
 use Rattle.netting.specs.Search.{none_below}
 use Rattle.netting.specs.Places.{at}
 
 abbrev pub known_accounts : Party → Bool
-known_accounts party = nat_lt party.securities ACCOUNTS && nat_lt party.cash ACCOUNTS
+known_accounts party = nat_lt party.securities MAX_ACCOUNTS && nat_lt party.cash MAX_ACCOUNTS
 
 abbrev pub known_kinds : Movement → Bool
-known_kinds m = nat_lt m.security SECURITIES && nat_lt m.currency CURRENCIES
+known_kinds m = nat_lt m.security MAX_SECURITIES && nat_lt m.currency CURRENCIES
 
 abbrev pub amounts_fit : Movement → Bool
-amounts_fit m = nat_le m.quantity MOST_MOVED && nat_le m.sum MOST_MOVED
+amounts_fit m = nat_le m.quantity MAX_MOVED && nat_le m.sum MAX_MOVED
 
 -- a movement that can be netted
 abbrev pub fits : Movement → Bool

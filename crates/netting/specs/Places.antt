@@ -5,12 +5,13 @@ use Rattle.movement.specs.declared.class.Class.TheVariants.{Central}
 use Rattle.movement.specs.Movements.{giver, receiver, payer, payee}
 use Rattle.movement.specs.declared.side.Side.{Side}
 use Rattle.movement.specs.declared.side.Side.TheVariants.{Securities, Cash}
-use Rattle.netting.specs.declared.places.TheConstants.{ACCOUNTS, SECURITIES, PLACES}
+use Rattle.movement.specs.declared.limits.TheConstants.{MAX_ACCOUNTS, MAX_SECURITIES}
+use Rattle.netting.specs.declared.places.TheConstants.{PLACES}
 use Rattle.netting.specs.declared.leg.Leg.{Leg}
 
 -- how many accounts a kind has places for
 unfoldable pub accounts : ℕ
-accounts = ACCOUNTS
+accounts = MAX_ACCOUNTS
 
 -- how many places there are: 16 kinds of securities, then 2 of cash
 unfoldable pub places : ℕ
@@ -18,12 +19,12 @@ places = PLACES
 
 -- the place of an account: rows 0 to 15 are the kinds of securities, rows 16 and 17 those of cash
 abbrev pub place : ℕ → ℕ → ℕ
-place row account = ACCOUNTS * row + account
+place row account = MAX_ACCOUNTS * row + account
 
 -- the row of a kind
 abbrev pub row_of : Side → ℕ → ℕ
 row_of Securities kind = kind
-row_of Cash kind = SECURITIES + kind
+row_of Cash kind = MAX_SECURITIES + kind
 
 abbrev pub place_of : Side → ℕ → ℕ → ℕ
 place_of side kind account = place (row_of side kind) account

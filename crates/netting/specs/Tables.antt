@@ -2,9 +2,10 @@
 use Rattle.std.specs.Prelude.{◌≡◌, ℕ, ◌+◌, ◌*◌, ◌<◌, ◌≤◌, Bool, true, false, List, ℤ, pos, ◌+ℤ◌, ◌-ℤ◌, neg_ℤ, ◌≤ℤ◌, slice_index_or}
 use Rattle.register.specs.Holdings.{limit}
 use Rattle.movement.specs.declared.movement.Movement.{Movement}
-use Rattle.netting.specs.declared.leg.Leg.{Leg}
+use Rattle.movement.specs.declared.limits.TheConstants.{MAX_MOVED}
+use Rattle.netting.specs.declared.limits.TheConstants.{MOVEMENTS}
 use Rattle.netting.specs.declared.places.TheConstants.{PLACES}
-use Rattle.netting.specs.declared.limits.TheConstants.{MOVEMENTS, MOST_MOVED}
+use Rattle.netting.specs.declared.leg.Leg.{Leg}
 use Rattle.netting.specs.Positions.{position}
 
 -- a table of what places have after a package is posted, by what they had before
@@ -27,8 +28,8 @@ most_legs = 2 * MOVEMENTS
 
 -- no further from 0 than what a place can hold and so many legs can bring it
 pub record IsNear (legs : ℕ) (z : ℤ) : Type 0 where
-  pub above : neg_ℤ (pos (limit + legs * MOST_MOVED)) ≤ℤ z
-  pub below : z ≤ℤ pos (limit + legs * MOST_MOVED)
+  pub above : neg_ℤ (pos (limit + legs * MAX_MOVED)) ≤ℤ z
+  pub below : z ≤ℤ pos (limit + legs * MAX_MOVED)
 
 -- so is every place of a table
 abbrev pub IsRoomy : ℕ → List ℤ → Type 0
@@ -37,4 +38,4 @@ IsRoomy legs table = (p : ℕ) → p < PLACES → IsNear legs (slice_index_or ta
 pub record LegFits (leg : Leg) : Type 0 where
   pub from : leg.from < PLACES
   pub to : leg.to < PLACES
-  pub amount : leg.amount ≤ MOST_MOVED
+  pub amount : leg.amount ≤ MAX_MOVED

@@ -2,7 +2,8 @@
 use Rattle.std.specs.Prelude.{◌≡◌, ℕ, ◌+◌, ◌<◌, ◌≤◌, Bool, true, false, List, length, Some}
 use Rattle.register.specs.Holdings.{sum_below}
 use Rattle.movement.specs.declared.movement.Movement.{Movement}
-use Rattle.netting.specs.declared.places.TheConstants.{SECURITIES, CURRENCIES, PLACES}
+use Rattle.movement.specs.declared.limits.TheConstants.{MAX_SECURITIES, CURRENCIES}
+use Rattle.netting.specs.declared.places.TheConstants.{PLACES}
 use Rattle.netting.specs.Search.{times}
 use Rattle.netting.specs.Places.{accounts, place, at, only_takes}
 use Rattle.netting.specs.Positions.{in_package, size, brought, taken, after_posting, short}
@@ -39,4 +40,4 @@ OnlyTried tried marks = (i : ℕ) → in_package marks i ≡ true → in_package
 
 -- of each kind as much is brought, over all accounts, as is taken
 abbrev pub Balanced : List Movement → List Bool → Type 0
-Balanced movements marks = (row : ℕ) → row < SECURITIES + CURRENCIES → sum_below accounts (λ account. brought movements marks (place row account)) ≡ sum_below accounts (λ account. taken movements marks (place row account))
+Balanced movements marks = (row : ℕ) → row < MAX_SECURITIES + CURRENCIES → sum_below accounts (λ account. brought movements marks (place row account)) ≡ sum_below accounts (λ account. taken movements marks (place row account))

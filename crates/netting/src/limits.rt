@@ -4,32 +4,31 @@ ghost use Rattle.std.specs.List.{list_all};
 ghost use Rattle.netting.specs.Search.{none_below};
 ghost use Rattle.netting.specs.Limits.{known_accounts, known_kinds, amounts_fit, fits as fits_limits, falls, fitting as fitting_of, small, bounded};
 
-use crate::places::{ACCOUNTS, CURRENCIES, PLACES, SECURITIES};
-use movement::{Movement, Party};
+use crate::places::PLACES;
+use movement::{
+    CURRENCIES, MAX_ACCOUNTS, MAX_MOVED, MAX_MOVEMENTS, MAX_SECURITIES, Movement, Party,
+};
 use register::LIMIT;
 
 /// The most movements that a package has.
-pub const MOVEMENTS: usize = 128;
-
-/// The most that a movement moves.
-pub const MOST_MOVED: u64 = 1_000_000_000_000;
+pub const MOVEMENTS: usize = MAX_MOVEMENTS;
 
 fn accounts_known(party: &Party) -> bool
     ensures { result ≡ known_accounts party.now }
 {
-    usize::from(party.securities) < ACCOUNTS && usize::from(party.cash) < ACCOUNTS
+    usize::from(party.securities) < MAX_ACCOUNTS && usize::from(party.cash) < MAX_ACCOUNTS
 }
 
 fn amounts_fit(m: &Movement) -> bool
     ensures { result ≡ amounts_fit m.now }
 {
-    m.quantity <= MOST_MOVED && m.sum <= MOST_MOVED
+    m.quantity <= MAX_MOVED && m.sum <= MAX_MOVED
 }
 
 fn kinds_known(m: &Movement) -> bool
     ensures { result ≡ known_kinds m.now }
 {
-    usize::from(m.security) < SECURITIES && usize::from(m.currency) < CURRENCIES
+    usize::from(m.security) < MAX_SECURITIES && usize::from(m.currency) < CURRENCIES
 }
 
 fn fits(m: &Movement) -> bool

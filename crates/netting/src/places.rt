@@ -2,19 +2,10 @@
 ghost use Rattle.std.specs.Prelude.{◌≡◌};
 ghost use Rattle.netting.specs.Places.{place_of};
 
-use movement::Side;
-
-/// How many kinds of securities there are.
-pub const SECURITIES: usize = 16;
-
-/// How many kinds of cash there are.
-pub const CURRENCIES: usize = 2;
-
-/// How many accounts of a kind there are.
-pub const ACCOUNTS: usize = 32;
+use movement::{CURRENCIES, MAX_ACCOUNTS, MAX_SECURITIES, Side};
 
 /// How many places there are: the accounts of each kind of securities, then of each kind of cash.
-pub const PLACES: usize = ACCOUNTS * (SECURITIES + CURRENCIES);
+pub const PLACES: usize = MAX_ACCOUNTS * (MAX_SECURITIES + CURRENCIES);
 
 /// The place of an account of a kind of securities or of cash.
 pub fn place_of(side: Side, kind: u8, account: u8) -> usize
@@ -22,7 +13,7 @@ pub fn place_of(side: Side, kind: u8, account: u8) -> usize
 {
     let row = match side {
         Side::Securities => usize::from(kind),
-        Side::Cash => SECURITIES + usize::from(kind),
+        Side::Cash => MAX_SECURITIES + usize::from(kind),
     };
-    ACCOUNTS * row + usize::from(account)
+    MAX_ACCOUNTS * row + usize::from(account)
 }

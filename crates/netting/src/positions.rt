@@ -6,13 +6,13 @@ ghost use Rattle.netting.specs.Limits.{fits, fitting as fitting_of};
 ghost use Rattle.netting.specs.Tables.{Kept, Posted, IsNear, IsRoomy, LegFits, most_legs, signed as signed_of};
 
 use crate::leg::Leg;
-use crate::limits::{MOST_MOVED, MOVEMENTS, fitting};
+use crate::limits::{MOVEMENTS, fitting};
 use crate::places::PLACES;
-use movement::{Movement, Side};
+use movement::{MAX_MOVED, Movement, Side};
 
 // An amount as it stands, or taken back.
 fn signed(amount: u64, inside: bool) -> i64
-    requires { amount ≤ MOST_MOVED }
+    requires { amount ≤ MAX_MOVED }
     ensures { result ≡ signed_of inside (pos amount) }
 {
     if inside {

@@ -5,7 +5,9 @@ ghost use Rattle.netting.specs.Search.{none_below};
 ghost use Rattle.netting.specs.Limits.{known_accounts, known_kinds, amounts_fit, fits as fits_limits, falls, fitting as fitting_of, small, bounded};
 
 use crate::places::PLACES;
-use movement::{CURRENCIES, MAX_ACCOUNTS, MAX_MOVED, MAX_MOVEMENTS, MAX_SECURITIES, Movement, Party};
+use movement::{
+    CURRENCIES, MAX_ACCOUNTS, MAX_MOVED, MAX_MOVEMENTS, MAX_SECURITIES, Movement, Party,
+};
 use register::LIMIT;
 
 /// The most movements that a package has.

@@ -2,7 +2,6 @@
 use Rattle.std.proofs.Common.{◌≡◌, ℕ, suc, ◌<◌, Bool, true, false, ◌&&◌, List, length, Some, None, Option, slice_set, sym, refl, ap, ◌∙◌, arith}
 use Rattle.std.proofs.lemmas.Bool.{both_ways, and_parts}
 use Rattle.movement.specs.declared.movement.Movement.{Movement}
-use Rattle.netting.specs.declared.places.TheConstants.{PLACES}
 use Rattle.netting.specs.Places.{places, at, only_takes}
 use Rattle.netting.specs.Positions.{in_package, size, short}
 use Rattle.netting.specs.Strikes.{chosen_at, marked, first_short, none_short, struck_next, strike, after_strikes}

@@ -8,7 +8,7 @@ use Rattle.book.specs.Opening.{Opening, opening_questions, sizes_of, morning, op
 use Rattle.book.specs.State.{State}
 
 -- the fault of an answer is that of the question that failed
-failed_by : {A : Type 0} (o : Option Fault) (v : A) → result_err (unless o (Ok v)) ≡ o
+pub failed_by : {A : Type 0} (o : Option Fault) (v : A) → result_err (unless o (Ok v)) ≡ o
 failed_by None v = refl
 failed_by (Some f) v = refl
 

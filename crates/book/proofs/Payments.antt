@@ -2,6 +2,7 @@
 use Rattle.std.proofs.Common.{◌≡◌, ℕ, ◌<◌, ◌≤◌, None, Ok, Err, Result, arith}
 use Rattle.std.proofs.lemmas.Bool.Decides.{nat_tests}
 use Rattle.register.specs.Holdings.{Holdings}
+use Rattle.register.proofs.Sums.{range_term}
 use Rattle.register.specs.Answers.{entry_answer}
 use Rattle.register.specs.declared.entry.Entry.{Entry}
 use Rattle.register.specs.declared.entry.Entry.TheVariants.{Put, Take}
@@ -11,11 +12,10 @@ use Rattle.book.specs.State.{State, holdings}
 use Rattle.fault.specs.Questions.{first_no, passes}
 use Rattle.fault.proofs.Asking.{all_hold}
 use Rattle.book.specs.Paying.{payment_questions, pay_questions, amount_at}
-use Rattle.book.proofs.Totals.{term_within}
 
 -- after its questions the register does not refuse a payment
 pub entry_passes : (h : Holdings) (p : Place) (e : Entry) → passes (payment_questions h p e) ≡ Ok tt → entry_answer h p.kind p.account e ≡ Ok tt
-entry_passes h p (Put n) passed = let held = term_within h p.kind p.account in grind (arith, nat_tests)
+entry_passes h p (Put n) passed = let held = range_term (h.amount p.kind) h.accounts p.account in grind (arith, nat_tests)
 entry_passes h p (Take n) passed = grind (arith, nat_tests)
 
 -- an answer is no refusal

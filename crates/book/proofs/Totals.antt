@@ -1,16 +1,8 @@
 -- Sums over the accounts of a register, where one amount was changed.
-use Rattle.std.proofs.Common.{◌≡◌, ℕ, ◌+◌, ◌<◌, ◌≤◌, get_or, ap, ◌∙◌, arith}
+use Rattle.std.proofs.Common.{◌≡◌, ℕ, ◌+◌, ◌<◌, arith}
 use Rattle.std.proofs.lemmas.Bool.Decides.{nat_tests}
-use Rattle.std.proofs.lemmas.List.FromFn.{get_or-range_with_len, length-range_with_len}
-use Rattle.std.proofs.lemmas.List.Sums.{get_or-le-sum_by}
-use Rattle.std.specs.List.{range_with_len}
 use Rattle.register.specs.Holdings.{Holdings, total, with_amount}
 use Rattle.register.proofs.Sums.{range_changed, range_same}
-
-pub term_within : (h : Holdings) (k a : ℕ) → a < h.accounts → h.amount k a ≤ total h k
-term_within h k a known =
-    let here : h.amount k (get_or (range_with_len 0 h.accounts) a 0) ≡ h.amount k a = ap (h.amount k) (get_or-range_with_len 0 h.accounts a 0 known ∙ omega arith) in
-    omega (arith, here, get_or-le-sum_by (h.amount k) (range_with_len 0 h.accounts) a 0 (rw length-range_with_len known))
 
 -- the sum of the kind of which one account's amount was changed
 pub total_changed : (h : Holdings) (k a n : ℕ) → a < h.accounts → total (with_amount h k a n) k + h.amount k a ≡ total h k + n

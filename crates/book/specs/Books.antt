@@ -1,9 +1,11 @@
 -- The state that a book is in, over any two registers.
+use Rattle.std.specs.Prelude.{Option}
 use Rattle.register.specs.Holdings.{Holdings}
-use Rattle.book.specs.declared.book.Book.{Book}
+use Rattle.fault.specs.declared.fault.Fault.{Fault}
 use Rattle.book.specs.declared.daybook.Daybook.{Daybook}
 use Rattle.movement.specs.Terms.{accounts_of, agreed}
 use Rattle.book.specs.Daily.{Daily}
+use Rattle.book.specs.Parts.{Parts}
 use Rattle.book.specs.State.{State}
 
 abbrev pub daily_of : Daybook → Daily
@@ -17,7 +19,11 @@ daily_of d = record {
   movements = d.movements.items;
 }
 
-abbrev pub state_of : {S C : Type 0} → (S → Holdings) → (C → Holdings) → Book S C → State
+abbrev pub parts : {S C : Type 0} → Option Fault → Daybook → S → C → Parts S C
+parts failed daybook securities cash =
+    record { failed = failed; daybook = daybook; securities = securities; cash = cash }
+
+abbrev pub state_of : {S C : Type 0} → (S → Holdings) → (C → Holdings) → Parts S C → State
 state_of securities cash b = record {
   failed = b.failed;
   daily = daily_of b.daybook;

@@ -3,6 +3,7 @@ use Rattle.std.specs.Prelude.{ℕ}
 use Rattle.fault.specs.declared.fault.Fault.{Fault}
 use Rattle.fault.specs.declared.fault.Fault.TheVariants.{AccountCount, KindCount, OpeningSum, FirstDay, UnknownSide, UnknownKind, UnknownAccount, AmountRange, SumRange, HoldsLess, TradeNumber, UnknownClass, UnknownSecurity, QuantityRange, UnknownCurrency, TradeSum, SettlementDay, NoTerms, UnknownCategory, ClearingField, ClearingLetter, ClearingParticipant, BookFull, UnknownMember, TermsCategory, TermsCustodian, NotOnBook, NoDuty, AlreadyConsented, CancelTooLate, NoFrame, UnknownCode, FrameLength, RegisterUnknownKind, RegisterUnknownAccount, RegisterHoldsLess, RegisterOverLimit}
 
+-- the number by which a refused call is answered; a register's are its own
 abbrev pub fault_number : Fault → ℕ
 fault_number AccountCount = 1
 fault_number KindCount = 2

@@ -6,23 +6,24 @@ use Rattle.std.proofs.lemmas.Grind.{get_or-set_at}
 use Rattle.std.proofs.lemmas.Bool.{cond_both}
 use Rattle.std.proofs.lemmas.Bool.Decides.{nat_tests}
 use Rattle.movement.specs.declared.category.Category.{Category}
+use Rattle.movement.specs.declared.limits.TheConstants.{MEMBERS, CATEGORIES}
 use Rattle.movement.specs.declared.terms.MemberRow.{MemberRow}
 use Rattle.movement.specs.Letters.{row}
 use Rattle.movement.specs.Agreed.{member_known, none_agreed, with_terms}
 use Rattle.movement.specs.Bounds.{TermsFit, agreed_fits, pair_fits}
 use Rattle.movement.specs.MemberRows.{agreed_in, empty_row, pair_in}
 
-row_few : (c : Category) → row c < 5
+row_few : (c : Category) → row c < CATEGORIES
 row_few c = grind arith
 
-no_pair : (m : ℕ) (c : Category) → agreed_in (replicate 16 (record { pairs = replicate 5 None })) m c ≡ none_agreed m c
+no_pair : (m : ℕ) (c : Category) → agreed_in (replicate MEMBERS (record { pairs = replicate CATEGORIES None })) m c ≡ none_agreed m c
 no_pair m c = let few = row_few c in grind (arith, nat_tests, get_or-replicate)
 
-pub new_agreed : agreed_in (replicate 16 (record { pairs = replicate 5 None })) ≡ none_agreed
+pub new_agreed : agreed_in (replicate MEMBERS (record { pairs = replicate CATEGORIES None })) ≡ none_agreed
 new_agreed = fun_ext (λ m. fun_ext (λ c. no_pair m c))
 
 -- a member's row changed in one category
-module _ (rows : List MemberRow) (m : ℕ) (c : Category) (p : ℕ × ℕ) (after : MemberRow) (known : member_known m ≡ true) (sixteen : length rows ≡ 16) (changed : (d : Category) → pair_in after d ≡ cond (eqb (row d) (row c)) (Some p) (pair_in (get_or rows (m - 1) empty_row) d)) where
+module _ (rows : List MemberRow) (m : ℕ) (c : Category) (p : ℕ × ℕ) (after : MemberRow) (known : member_known m ≡ true) (all_members : length rows ≡ MEMBERS) (changed : (d : Category) → pair_in after d ≡ cond (eqb (row d) (row c)) (Some p) (pair_in (get_or rows (m - 1) empty_row) d)) where
   set_at : (n : ℕ) (d : Category) → agreed_in (set rows (m - 1) after) n d ≡ with_terms (agreed_in rows) m c p n d
   set_at n d = let here = changed d in grind (arith, nat_tests, get_or-set_at, get_or-set_other)
 

@@ -1,9 +1,10 @@
 -- The clearing field: four characters.
-use Rattle.std.specs.Prelude.{ℕ, ◌+◌, ◌-◌, ◌*◌, Bool, cond, ◌&&◌, ◌||◌, List, [], ◌∷◌, Some, None, Option, ◌==◌, nat_le, nat_lt, slice_index}
+use Rattle.std.specs.Prelude.{ℕ, ◌+◌, ◌-◌, ◌*◌, Bool, if◌then◌else◌, ◌&&◌, ◌||◌, List, [], ◌∷◌, Some, None, Option, ◌==◌, nat_le, nat_lt, slice_index}
 use Rattle.std.specs.Char.{is_ascii_digit}
 use Rattle.fault.specs.declared.fault.Fault.TheVariants.{ClearingField, ClearingLetter, ClearingParticipant}
 use Rattle.fault.specs.Questions.{Question, ask}
 
+-- the character at a place of the field
 abbrev pub character : List ℕ → ℕ → ℕ
 character f i = slice_index f i
 
@@ -31,4 +32,4 @@ clearing_questions accounts f =
 
 -- the participant of one-off terms, if there are any
 abbrev pub one_off_of : List ℕ → Option ℕ
-one_off_of f = cond (blank f) None (Some (digits f))
+one_off_of f = if blank f then None else Some (digits f)

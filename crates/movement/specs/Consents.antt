@@ -14,6 +14,7 @@ has_duty m p = giver m == p || payer m == p
 abbrev pub silent : Movement → ℕ → Bool
 silent m p = (giver m == p && not m.seller.consented) || (payer m == p && not m.buyer.consented)
 
+-- the half is the afternoon
 abbrev pub is_afternoon : Half → Bool
 is_afternoon Morning = false
 is_afternoon Afternoon = true

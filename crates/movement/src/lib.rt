@@ -20,7 +20,9 @@ pub use class::Class;
 pub use clearing::one_off_participant;
 pub use forming::form;
 pub use half::Half;
-pub use limits::{CURRENCIES, MAX_ACCOUNTS, MAX_MOVED, MAX_MOVEMENTS, MAX_SECURITIES, MEMBERS};
+pub use limits::{
+    CATEGORIES, CURRENCIES, MAX_ACCOUNTS, MAX_MOVED, MAX_MOVEMENTS, MAX_SECURITIES, MEMBERS,
+};
 pub use movement::Movement;
 pub use party::Party;
 pub use side::Side;

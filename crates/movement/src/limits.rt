@@ -16,4 +16,7 @@ pub const MAX_SECURITIES: usize = 16;
 pub const CURRENCIES: usize = 2;
 
 /// How many members set terms; they are numbered from 1.
-pub const MEMBERS: u8 = 16;
+pub const MEMBERS: usize = 16;
+
+/// How many categories a member sets terms for.
+pub const CATEGORIES: usize = 5;

@@ -1,4 +1,4 @@
-//! The terms of 16 members: the custodians that act for each, category by category.
+//! The terms of a book's members: the custodians that act for each, category by category.
 ghost use Rattle.std.specs.Prelude.{◌≡◌, true, if◌then◌else◌, Some, ◌==◌};
 ghost use Rattle.movement.specs.declared.category.Category.{Category};
 ghost use Rattle.movement.specs.Agreed.{member_known};
@@ -7,13 +7,13 @@ ghost use Rattle.movement.specs.Letters.{row as row_of};
 ghost use Rattle.movement.specs.MemberRows.{agreed_in, pair_in};
 
 use crate::category::Category;
-use crate::limits::MEMBERS;
+use crate::limits::{CATEGORIES, MEMBERS};
 use fault::{Fault, ask};
 
 /// For each category the custodians of securities and of cash, where they are set.
 #[derive(Clone, Copy)]
 pub struct MemberRow {
-    pub(crate) pairs: [Option<(u8, u8)>; 5],
+    pub(crate) pairs: [Option<(u8, u8)>; CATEGORIES],
 }
 
 /// The terms of all members of a book, whose custodians are participants of it.
@@ -22,7 +22,7 @@ pub struct Terms {
     // how many accounts the book has; those from 1 on are participants
     accounts: u8,
     // Stays: rows of fixed size, by member and category, are the form that was asked for, and want no memory.
-    rows: [MemberRow; 16],
+    rows: [MemberRow; MEMBERS],
     // every custodian that is set is a participant
     ghost fit: { TermsFit accounts (agreed_in rows) },
 }
@@ -52,7 +52,7 @@ impl MemberRow {
 fn is_member(member: u8) -> bool
     ensures { result ≡ member_known member }
 {
-    member >= 1 && member <= MEMBERS
+    member >= 1 && usize::from(member) <= MEMBERS
 }
 
 impl Terms {
@@ -68,10 +68,12 @@ impl Terms {
         ensures none { agreed result ≡ none_agreed }
         ensures accounts { accounts_of result ≡ accounts }
     {
-        let row = MemberRow { pairs: [None; 5] };
+        let row = MemberRow {
+            pairs: [None; CATEGORIES],
+        };
         Terms {
             accounts,
-            rows: [row; 16],
+            rows: [row; MEMBERS],
         }
     }
 
@@ -90,6 +92,7 @@ impl Terms {
     }
 
     /// The custodians of securities and of cash for a member's category, of main where it was never set.
+    // Stays: the pair of both custodians is the form that was asked for.
     pub fn look_up(&self, member: u8, category: Category) -> Option<(u8, u8)>
         ensures terms { result ≡ lookup (agreed self.now) member category }
         ensures participants { agreed_fits (accounts_of self.now) result ≡ true }
@@ -125,7 +128,8 @@ impl Terms {
     fn set(&mut self, member: u8, category: Category, custodians: (u8, u8))
         requires member { member_known member ≡ true }
         requires participants { pair_fits (accounts_of self.old) custodians ≡ true }
-        ensures terms { agreed self.new ≡ with_terms (agreed self.old) member category custodians }
+        ensures terms { agreed self.new
+            ≡ with_terms (agreed self.old) member category custodians }
         ensures accounts { accounts_of self.new ≡ accounts_of self.old }
     {
         self.rows[member as usize - 1].set(category, custodians);

@@ -4,10 +4,15 @@ use Rattle.std.proofs.lemmas.Bool.Decides.{nat_tests}
 use Rattle.register.specs.Answers.{Changed, Enters}
 use Rattle.register.specs.Entry.{amount_after}
 use Rattle.register.specs.Holdings.{Holdings, with_amount}
-use Rattle.register.specs.Joined.{joined_holdings, Shown}
+use Rattle.register.specs.Joined.{joined_kinds, joined_accounts, joined_holdings}
 use Rattle.register.specs.declared.entry.Entry.{Entry}
 use Rattle.register.specs.declared.refusal.Refusal.{Refusal}
 use Rattle.register.proofs.Alike.{same_holdings}
+
+-- that a kind and an account are shown
+pub record Shown (f s : Holdings) (k a : ℕ) : Type 0 where
+  pub kind : k < joined_kinds f s
+  pub account : a < joined_accounts f s
 
 -- kind p of a part is kind k of the whole that is made of it, and both know account a
 pub record Within (whole : Holdings → Holdings) (part : Holdings) (p k a : ℕ) : Type 0 where

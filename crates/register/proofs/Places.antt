@@ -7,8 +7,13 @@ use Rattle.register.specs.Answers.{entry_answer, Enters}
 use Rattle.register.specs.Entry.{room_for, amount_after}
 use Rattle.register.specs.declared.entry.Entry.{Entry}
 use Rattle.register.specs.Holdings.{with_amount}
-use Rattle.register.specs.Rows.{stride, place, written, laid, Known}
+use Rattle.register.specs.Rows.{stride, place, written, laid, shown_kinds, shown_accounts}
 use Rattle.register.proofs.Alike.{same_holdings}
+
+-- that a kind and an account are shown
+pub record Known {X : Type 0} (kinds : ℕ) (rows : List X) (k a : ℕ) : Type 0 where
+  pub kind : k < shown_kinds kinds rows
+  pub account : a < shown_accounts kinds rows
 
 -- each place that is shown is that of a row
 pub place_within : {X : Type 0} (kinds : ℕ) (rows : List X) (k a : ℕ) → Known kinds rows k a → place kinds rows k a < length rows

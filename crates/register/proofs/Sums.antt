@@ -55,5 +55,14 @@ range_changed f g n i h other = omega (arith, sum_by-range_with_len f n, sum_by-
 pub range_same : (f g : ℕ → ℕ) (n : ℕ) → ((i : ℕ) → i < n → f i ≡ g i) → sum_by f (range_with_len 0 n) ≡ sum_by g (range_with_len 0 n)
 range_same f g n same = omega (arith, sum_by-range_with_len f n, sum_by-range_with_len g n, sum_same f g n same)
 
+-- no term is more than the sum
+pub range_term : (f : ℕ → ℕ) (n i : ℕ) → i < n → f i ≤ sum_by f (range_with_len 0 n)
+range_term f zero i h = absurd (omega arith)
+range_term f (suc n) i h =
+    ⊎_elim
+    (λ (q : i ≡ n). let e = ap f q in omega (arith, range_more f 0 n n (omega arith)))
+    (λ (q : i ≡ n → ⊥). omega (arith, range_term f n i (omega arith), range_more f 0 n n (omega arith)))
+    (cases_eq i n)
+
 pub range_bound : (f : ℕ → ℕ) (m n : ℕ) → ((i : ℕ) → i < n → f i ≤ m) → sum_by f (range_with_len 0 n) ≤ n * m
 range_bound f m n each = omega (arith, sum_by-range_with_len f n, sum_bound f m n each)

@@ -1,5 +1,5 @@
 -- Two registers shown as one.
-use Rattle.std.specs.Prelude.{◌≡◌, ℕ, ◌+◌, ◌-◌, ◌<◌, min, cond, ◌&&◌, is_ok, Result, nat_le, nat_lt}
+use Rattle.std.specs.Prelude.{◌≡◌, ℕ, ◌+◌, ◌-◌, min, cond, ◌&&◌, is_ok, Result, nat_le, nat_lt}
 use Rattle.register.specs.Holdings.{Holdings, most}
 use Rattle.register.specs.declared.refusal.Refusal.{Refusal}
 use Rattle.register.specs.declared.joined.Joined.{Joined}
@@ -24,12 +24,6 @@ module _ (f s : Holdings) where
         0;
   }
 
-  -- that a kind and an account are shown
-  pub record Shown (k a : ℕ) : Type 0 where
-    pub kind : k < joined_kinds
-    pub account : a < joined_accounts
-
-module _ (f s : Holdings) where
   -- what a call leaves of the parts: the one that has the kind is changed where the call was answered, the other is not
   pub record PartsLeft (change : Holdings → ℕ → Holdings) (k : ℕ) (r : Result Unit Refusal) (f' s' : Holdings) : Type 0 where
     pub first : f' ≡ cond (is_ok r && nat_lt k f.kinds) (change f k) f

@@ -71,9 +71,11 @@ impl<S: Register, C: Register> Register for Joined<S, C> {
     }
 
     fn enter(&mut self, kind: usize, account: usize, entry: Entry) -> Result<(), Refusal>
-        ensures enters { Enters (joined_shows S.Register.shows C.Register.shows self.old) kind account entry result
+        ensures enters { Enters (joined_shows S.Register.shows C.Register.shows self.old)
+            kind account entry result
             (joined_shows S.Register.shows C.Register.shows self.new) }
-        ensures parts { PartsLeft (S.Register.shows (first_of self.old)) (C.Register.shows (second_of self.old))
+        ensures parts { PartsLeft
+            (S.Register.shows (first_of self.old)) (C.Register.shows (second_of self.old))
             (λ h k. holdings_after h k account entry) kind result
             (S.Register.shows (first_of self.new)) (C.Register.shows (second_of self.new)) }
     {
@@ -87,9 +89,11 @@ impl<S: Register, C: Register> Register for Joined<S, C> {
     }
 
     fn put(&mut self, kind: usize, account: usize, amount: u64) -> Result<(), Refusal>
-        ensures put { Put (joined_shows S.Register.shows C.Register.shows self.old) kind account amount result
+        ensures put { Put (joined_shows S.Register.shows C.Register.shows self.old)
+            kind account amount result
             (joined_shows S.Register.shows C.Register.shows self.new) }
-        ensures parts { PartsLeft (S.Register.shows (first_of self.old)) (C.Register.shows (second_of self.old))
+        ensures parts { PartsLeft
+            (S.Register.shows (first_of self.old)) (C.Register.shows (second_of self.old))
             (λ h k. raised h k account amount) kind result
             (S.Register.shows (first_of self.new)) (C.Register.shows (second_of self.new)) }
     {
@@ -97,9 +101,11 @@ impl<S: Register, C: Register> Register for Joined<S, C> {
     }
 
     fn take(&mut self, kind: usize, account: usize, amount: u64) -> Result<(), Refusal>
-        ensures taken { Taken (joined_shows S.Register.shows C.Register.shows self.old) kind account amount result
+        ensures taken { Taken (joined_shows S.Register.shows C.Register.shows self.old)
+            kind account amount result
             (joined_shows S.Register.shows C.Register.shows self.new) }
-        ensures parts { PartsLeft (S.Register.shows (first_of self.old)) (C.Register.shows (second_of self.old))
+        ensures parts { PartsLeft
+            (S.Register.shows (first_of self.old)) (C.Register.shows (second_of self.old))
             (λ h k. lowered h k account amount) kind result
             (S.Register.shows (first_of self.new)) (C.Register.shows (second_of self.new)) }
     {

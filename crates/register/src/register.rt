@@ -92,5 +92,6 @@ pub trait Register: Drop {
 
     ghost unknown_kind: { (s : Self) (k a : ℕ) → (shows s).kinds ≤ k → (shows s).amount k a ≡ 0 };
 
-    ghost unknown_account: { (s : Self) (k a : ℕ) → (shows s).accounts ≤ a → (shows s).amount k a ≡ 0 };
+    ghost unknown_account: { (s : Self) (k a : ℕ) →
+        (shows s).accounts ≤ a → (shows s).amount k a ≡ 0 };
 }

@@ -33,7 +33,8 @@ impl<X: Cell> RowRegister<X> {
 
     /// A register over the rows, kind by kind. Rows that are left over stay as they are.
     pub fn new(rows: Vec<X>, kinds: usize) -> RowRegister<X>
-        ensures shows { holdings_of X.amount X.empty result ≡ laid kinds rows.items X.amount X.empty }
+        ensures shows { holdings_of X.amount X.empty result
+            ≡ laid kinds rows.items X.amount X.empty }
         ensures kinds { kinds_of result ≡ kinds }
         ensures rows { rows_of result ≡ rows.items }
     {
@@ -54,7 +55,8 @@ impl<X: Cell> RowRegister<X> {
         requires some_kinds { 0 < kinds }
         requires few_kinds { kinds ≤ most }
         requires few_accounts { accounts ≤ most }
-        ensures shows { IfOk result (λ r. holdings_of X.amount X.empty r ≡ zero_holdings kinds accounts) }
+        ensures shows { IfOk result (λ r.
+            holdings_of X.amount X.empty r ≡ zero_holdings kinds accounts) }
         ensures rows { IfOk result (λ r. rows_of r ≡ replicate (kinds * accounts) X.empty) }
     {
         let rows = vec![in alloc; X::empty(); kinds * accounts]?;
@@ -88,7 +90,6 @@ impl<X: Cell> Register for RowRegister<X> {
     ghost use Rattle.register.specs.Answers.{Enters, Put, Taken};
     ghost use Rattle.register.specs.Rows.{laid_bounded};
     ghost use Rattle.register.specs.RowRegister.{rows_of, kinds_of, holdings_of, row_of, Entered};
-    ghost use Rattle.register.specs.declared.entry.Entry.TheVariants.{Put as putting, Take as taking};
     ghost use Rattle.std.proofs.Common.{rules};
 
     ghost shows = { holdings_of X.amount X.empty };
@@ -118,11 +119,13 @@ impl<X: Cell> Register for RowRegister<X> {
         }
     }
 
+    #[tactic(auto, using(crate::proofs::Places::row_enters))]
     fn enter(&mut self, kind: usize, account: usize, entry: Entry) -> Result<(), Refusal>
         ensures enters { Enters (holdings_of X.amount X.empty self.old) kind account entry result
             (holdings_of X.amount X.empty self.new) }
         ensures entered { Entered X.empty X.kept self.old kind account
-            (X.with_entry (row_of X.empty self.old kind account) entry) result self.new }
+            (X.with_entry (row_of X.empty self.old kind account) entry)
+            result self.new }
     {
         let place = self.locate(kind, account)?;
         let row = self.rows[place];
@@ -135,7 +138,8 @@ impl<X: Cell> Register for RowRegister<X> {
         ensures put { Put (holdings_of X.amount X.empty self.old) kind account amount result
             (holdings_of X.amount X.empty self.new) }
         ensures entered { Entered X.empty X.kept self.old kind account
-            (X.with_entry (row_of X.empty self.old kind account) (putting amount)) result self.new }
+            (X.with_entry (row_of X.empty self.old kind account) (Entry.Put amount))
+            result self.new }
     {
         self.enter(kind, account, Entry::Put(amount))
     }
@@ -144,7 +148,8 @@ impl<X: Cell> Register for RowRegister<X> {
         ensures taken { Taken (holdings_of X.amount X.empty self.old) kind account amount result
             (holdings_of X.amount X.empty self.new) }
         ensures entered { Entered X.empty X.kept self.old kind account
-            (X.with_entry (row_of X.empty self.old kind account) (taking amount)) result self.new }
+            (X.with_entry (row_of X.empty self.old kind account) (Entry.Take amount))
+            result self.new }
     {
         self.enter(kind, account, Entry::Take(amount))
     }

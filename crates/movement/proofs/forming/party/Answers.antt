@@ -16,10 +16,11 @@ returns-in_err-one_off c =
     let accounts = accounts_of c.args.terms.now in
     let category : category_of side.category ≡ Some c.in_ok-category.category = search rules in
     let terms : lookup t side.member c.in_ok-category.category ≡ Some c.in_ok-standard.standard = search rules in
-    let left = clearing_left t accounts side category terms (party_of t side) in
     let p = err_from_is_err_and c.from_residual-in_err-one_off.result c.from_residual-in_err-one_off.ensures.1 in
     rw (p.1, p.2)
-    (sym (left ∙ asked_fault (clearing_questions accounts side.clearing) (one_off_of side.clearing) (party_of t side) (search rules)))
+    (sym
+    (clearing_left t accounts side category terms (party_of t side)
+    ∙ asked_fault (clearing_questions accounts side.clearing) (one_off_of side.clearing) (party_of t side) (search rules)))
 
 pub returns : goal.returns
 returns c =
@@ -28,7 +29,6 @@ returns c =
     let accounts = accounts_of c.args.terms.now in
     let category : category_of side.category ≡ Some c.in_ok-category.category = search rules in
     let terms : lookup t side.member c.in_ok-category.category ≡ Some c.in_ok-standard.standard = search rules in
-    let left = clearing_left t accounts side category terms (party_of t side) in
     let value = asked_value (clearing_questions accounts side.clearing) (one_off_of side.clearing) (party_of t side) {x = c.in_ok-one_off.one_off} (search rules) in
     ap Ok (c.party_with.ensures ∙ ap (formed c.in_ok-standard.standard) (sym value.0) ∙ sym (party_formed t accounts side category terms))
-    ∙ sym (left ∙ value.1)
+    ∙ sym (clearing_left t accounts side category terms (party_of t side) ∙ value.1)

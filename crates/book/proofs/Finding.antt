@@ -20,7 +20,9 @@ use Rattle.movement.specs.Consents.{has_duty, silent, consented}
 use Rattle.movement.proofs.Fitting.{fit_at, fit_set}
 use Rattle.book.specs.Daily.{Daily, has_number, on_book, place_of, changed_at, whether, consent_questions, with_movements}
 use Rattle.book.specs.Found.{FoundAt}
+use Rattle.book.specs.Rising.{IsRising}
 use Rattle.book.specs.Trading.{ConsentedTo}
+use Rattle.book.proofs.Ordering.{rising_set}
 
 found_at : (ms : List Movement) (n i : ℕ) → position (has_number n) ms ≡ Some i → FoundAt ms n i
 found_at [] n i e = absurd (none-some i e)
@@ -71,6 +73,12 @@ module _ (d : Daily) (n p i : ℕ) (at : FoundAt d.movements n i) where
   consented_fit accounts kinds half seen left m x bounds same given written =
       let fits : movement_fits accounts kinds (get_or seen i m) ≡ true = rw same (fit_at accounts kinds d.movements i m bounds at.within) in
       rw written (fit_set accounts kinds d.movements i x bounds (rw given fits))
+
+  -- .. and in its order
+  pub consented_rising : (highest : ℕ) (half : Half) (seen left : List Movement) (m x : Movement) → IsRising highest d.movements → seen ≡ d.movements → x ≡ consented (get_or seen i m) p half → left ≡ set d.movements i x → IsRising highest left
+  consented_rising highest half seen left m x rising same given written =
+      let number : x.number ≡ (get_or d.movements i m).number = ap (λ y. y.number) (given ∙ ap (λ ms. consented (get_or ms i m) p half) same) in
+      rw written (rising_set d.movements i m x at.within number highest rising)
 
 -- a movement written in its place
 pub written_at : (v : ArrayVec Movement) (i : ℕ) (seen : List Movement) (x : Movement) → seen ≡ v.items → (with_items v (set seen i x)).items ≡ set v.items i x

@@ -4,3 +4,4 @@ pub mod Openings
 pub mod Soundness
 pub mod Trades
 pub mod Finding
+pub mod Ordering

@@ -1,6 +1,7 @@
 -- The questions of a trade, asked in parts.
-use Rattle.std.proofs.Common.{◌≡◌, true, ltb, leb, ◌++◌, None, Ok, Err, Result, ap, ◌∙◌}
+use Rattle.std.proofs.Common.{◌≡◌, ◌<◌, true, ltb, leb, ◌++◌, None, Ok, Err, Result, ap, ◌∙◌, arith}
 use Rattle.std.proofs.lemmas.Bool.{and_from, and_parts}
+use Rattle.std.proofs.lemmas.Bool.Decides.{nat_tests}
 use Rattle.fault.specs.declared.fault.Fault.{Fault}
 use Rattle.fault.specs.Questions.{asked, first_no, passes}
 use Rattle.fault.proofs.Asking.{all_hold, asked_stops, asked_goes, asked_fault, asked_value, first_no_parts}
@@ -61,3 +62,7 @@ trade_fits d t fit passed =
     (and_from (ltb t.currency 2) _ basic.1.1.1.1.0
     (and_from (from_one_to most_moved t.sum) _ basic.1.1.1.1.1.0
     (and_from (party_fits d.accounts m.seller) (party_fits d.accounts m.buyer) seller buyer)))))
+
+-- .. of a number above every one before
+pub trade_rises : (d : Daily) (t : Trade) → first_no (trade_questions d t) ≡ None → d.highest < t.number
+trade_rises d t passed = let all = all_hold (trade_questions d t) passed in grind (arith, nat_tests)

@@ -1,5 +1,6 @@
 pub mod Daily
 pub mod Found
+pub mod Rising
 pub mod State
 pub mod Parts
 pub mod Sound

@@ -2,6 +2,7 @@
 ghost use Rattle.std.specs.Prelude.{◌≡◌, true};
 ghost use Rattle.movement.specs.Bounds.{all_fit};
 ghost use Rattle.movement.specs.Terms.{accounts_of};
+ghost use Rattle.book.specs.Rising.{IsRising};
 
 use crate::paying::is_movable;
 use arrayvec::ArrayVec;
@@ -25,6 +26,8 @@ pub struct Daybook {
     movements: ArrayVec<Movement, MAX_MOVEMENTS>,
     // the numbers of every movement are within their bounds
     ghost bounds: { all_fit (accounts_of terms) kinds movements.items ≡ true },
+    // they rise, and none is above the highest number accepted
+    ghost rising: { IsRising highest movements.items },
 }
 
 impl Daybook {

@@ -25,7 +25,7 @@ pub fn opened_on(alloc: Global, first_day: u32) -> Result<Depository, Fail> {
     Ok(book)
 }
 
-/// .. on day 0.
+/// The same on day 0.
 pub fn opened(alloc: Global) -> Result<Depository, Fail> {
     opened_on(alloc, 0)
 }
@@ -46,7 +46,7 @@ pub fn expect<S: Register, C: Register>(
     Ok(())
 }
 
-/// .. the calls of a table, one after the other.
+/// Makes the calls of a table, one after the other, and compares the number of each answer.
 pub fn compare<S: Register, C: Register>(
     book: &mut Book<S, C>,
     cases: &[(Call, u8)],

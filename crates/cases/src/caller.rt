@@ -68,7 +68,8 @@ pub fn open(alloc: Global) -> Result<Book<Table, Table>, AllocError>
 pub fn sell(book: &mut Book<Table, Table>) -> Result<u64, Fault>
     requires { state_of table_shows table_shows book.old ≡ new_book }
     ensures told { result ≡ Ok 10 }
-    ensures entered { on_book 1 (state_of table_shows table_shows book.new).daily.movements ≡ Some sale }
+    ensures entered { on_book 1 (state_of table_shows table_shows book.new).daily.movements
+        ≡ Some sale }
 {
     book.pay_in(SHARES, 10)?;
     book.set_terms(SELLER)?;

@@ -21,7 +21,9 @@ impl Change {
     }
 }
 
-// A trade by each two changes of a table, which has for each question of a trade, in the order in which they are asked, one that it refuses: the first gives the answer. Members 3 and 4 have no terms; each clearing field fails the questions after its own too.
+// Makes a trade by each two changes of a table, and compares its answer with the first's number.
+// The table has a change for each question of a trade, in the order in which they are asked.
+// Members 3 and 4 have no terms; each clearing field fails the questions after its own too.
 fn compare_by_two(book: &mut Depository, number: u32) -> Result<(), Fail> {
     let refused = [
         (Change::new(|t| t.number = 0), 20),

@@ -7,7 +7,8 @@ use Rattle.movement.specs.Terms.{accounts_of}
 use Rattle.movement.proofs.Fitting.{fit_push}
 use Rattle.book.specs.Books.{daily_of}
 use Rattle.book.specs.Daily.{trade_questions, traded, with_movements}
-use Rattle.book.proofs.Trades.{trade_fits}
+use Rattle.book.proofs.Ordering.{rising_push}
+use Rattle.book.proofs.Trades.{trade_fits, trade_rises}
 use Rattle.book.proofs.daybook.Daybook.trade.Goals as goal
 
 pub returns-in_err-movement : goal.returns-in_err-movement
@@ -24,7 +25,6 @@ pub invariant_of-self : goal.invariant_of-self
 invariant_of-self c =
     let self = c.args.self.now in
     let d = daily_of self in
-    let room = c.in_ok-movement.ensures.room refl in
     let formed = sym c.in_ok-movement.ensures.formed in
     let same = (asked_value (trade_questions d c.args.trade) (traded d c.args.trade) (traded d c.args.trade) formed).0 in
     let passed = (unless_none (first_no (trade_questions d c.args.trade)) (Ok (traded d c.args.trade)) _ formed).0 in
@@ -35,6 +35,8 @@ invariant_of-self c =
     ∙ fit_push (accounts_of self.terms) self.kinds self.movements.items c.in_ok-movement.movement self.bounds fits in
     record {
       bounds = after;
+      rising = rw c.push.ensures.items
+          (rising_push self.highest c.args.trade.number self.movements.items c.in_ok-movement.movement (ap (λ m. m.number) (sym same)) (trade_rises d c.args.trade passed) self.rising);
     }
 
 pub returns : goal.returns

@@ -196,6 +196,7 @@ fn as_signed(amounts: &[u64; PLACES]) -> [i64; PLACES]
     signed
 }
 
+// Stays: tried, and the proof did not close, with one function that asks `any` and `all` of legs.
 // Whether a movement takes from a place.
 fn takes_from(m: &Movement, place: usize) -> bool
     ensures { IsTrue result ↔ (0 < takes m.now place) }

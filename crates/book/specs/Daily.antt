@@ -6,7 +6,7 @@ use Rattle.fault.specs.declared.fault.Fault.TheVariants.{TradeNumber, UnknownCla
 use Rattle.fault.specs.Questions.{Question, ask}
 use Rattle.movement.specs.declared.class.Class.{Class}
 use Rattle.movement.specs.declared.class.Class.TheVariants.{Central}
-use Rattle.movement.specs.declared.limits.TheConstants.{MAX_MOVEMENTS}
+use Rattle.movement.specs.declared.limits.TheConstants.{CURRENCIES, MAX_MOVEMENTS}
 use Rattle.movement.specs.declared.half.Half.{Half}
 use Rattle.movement.specs.declared.movement.Movement.{Movement}
 use Rattle.movement.specs.declared.terms.Setting.{Setting}
@@ -19,14 +19,17 @@ use Rattle.movement.specs.Settings.{terms_after}
 use Rattle.movement.specs.Forming.{side_questions, movement_of}
 use Rattle.movement.specs.Consents.{has_duty, silent, consented, is_afternoon}
 
--- the numbers of accounts and of securities noted at the opening, 0 where it failed; day and half; the highest trade number accepted; the terms; the movements on the book
+-- what a book keeps
 pub record Daily : Type 0 where
+  -- the numbers of accounts and of securities, 0 where the opening failed
   pub accounts : ℕ
   pub kinds : ℕ
   pub day : ℕ
   pub half : Half
+  -- the highest trade number accepted
   pub highest : ℕ
   pub terms : Agreed
+  -- the movements on the book
   pub movements : List Movement
 
 -- other terms
@@ -44,7 +47,7 @@ basic_questions d t =
     ∷ (ask (is_some (class_of t.class)) UnknownClass
     ∷ (ask (nat_lt t.security d.kinds) UnknownSecurity
     ∷ (ask (from_one_to most_traded t.quantity) QuantityRange
-    ∷ (ask (nat_lt t.currency 2) UnknownCurrency
+    ∷ (ask (nat_lt t.currency CURRENCIES) UnknownCurrency
     ∷ (ask (from_one_to most_traded t.sum) TradeSum
     ∷ (ask (nat_le d.day t.day && nat_le t.day (d.day + LONGEST_WAIT)) SettlementDay
     ∷ []))))))

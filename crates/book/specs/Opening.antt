@@ -26,10 +26,22 @@ opens_on securities cash day = record { securities = securities; cash = cash; da
 abbrev pub sums_within : Holdings → Bool
 sums_within h = list_all (λ k. nat_le (total h k) limit) (range_with_len 0 h.kinds)
 
+-- from 2 to 32 accounts, as many in both registers
+abbrev pub accounts_fit : Opening → Bool
+accounts_fit o =
+    o.securities.accounts == o.cash.accounts
+    && (nat_le 2 o.securities.accounts && nat_le o.securities.accounts MAX_ACCOUNTS)
+
+-- from 1 to 16 securities, and 2 currencies
+abbrev pub kinds_fit : Opening → Bool
+kinds_fit o =
+    nat_le 1 o.securities.kinds
+    && (nat_le o.securities.kinds MAX_SECURITIES && o.cash.kinds == CURRENCIES)
+
 abbrev pub opening_questions : Opening → List Question
 opening_questions o =
-    ask (o.securities.accounts == o.cash.accounts && (nat_le 2 o.securities.accounts && nat_le o.securities.accounts MAX_ACCOUNTS)) AccountCount
-    ∷ (ask (nat_le 1 o.securities.kinds && (nat_le o.securities.kinds MAX_SECURITIES && o.cash.kinds == CURRENCIES)) KindCount
+    ask (accounts_fit o) AccountCount
+    ∷ (ask (kinds_fit o) KindCount
     ∷ (ask (sums_within o.securities && sums_within o.cash) OpeningSum
     ∷ (ask (nat_le o.day LAST_DAY) FirstDay
     ∷ [])))

@@ -9,6 +9,7 @@ use crate::refusal::Refusal;
 use crate::register::{MOST, Register};
 use std::alloc::{AllocError, Global};
 
+/// Rows that no kind has, being left over, are kept and never read.
 #[derive(Drop)]
 pub struct RowRegister<X> {
     rows: Vec<X>,
@@ -31,7 +32,7 @@ impl<X: Cell> RowRegister<X> {
     ghost use Rattle.register.specs.Rows.{laid, place as place_of};
     ghost use Rattle.register.specs.RowRegister.{rows_of, kinds_of, holdings_of};
 
-    /// A register over the rows, kind by kind. Rows that are left over stay as they are.
+    /// A register over the rows, kind by kind.
     pub fn new(rows: Vec<X>, kinds: usize) -> RowRegister<X>
         ensures shows { holdings_of X.amount X.empty result
             ≡ laid kinds rows.items X.amount X.empty }

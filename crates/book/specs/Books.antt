@@ -8,6 +8,7 @@ use Rattle.book.specs.Daily.{Daily}
 use Rattle.book.specs.Parts.{Parts}
 use Rattle.book.specs.State.{State}
 
+-- what a day book keeps
 abbrev pub daily_of : Daybook → Daily
 daily_of d = record {
   accounts = accounts_of d.terms;
@@ -19,10 +20,12 @@ daily_of d = record {
   movements = d.movements.items;
 }
 
+-- a book, by its fields
 abbrev pub parts : {S C : Type 0} → Option Fault → Daybook → S → C → Parts S C
 parts failed daybook securities cash =
     record { failed = failed; daybook = daybook; securities = securities; cash = cash }
 
+-- .. and the state that it is in, by what its registers show
 abbrev pub state_of : {S C : Type 0} → (S → Holdings) → (C → Holdings) → Parts S C → State
 state_of securities cash b = record {
   failed = b.failed;

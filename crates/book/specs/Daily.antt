@@ -13,19 +13,22 @@ use Rattle.movement.specs.declared.trade.Trade.{Trade}
 use Rattle.movement.specs.Letters.{class_of}
 use Rattle.movement.specs.Agreed.{Agreed}
 use Rattle.movement.specs.Bounds.{from_one_to}
-use Rattle.movement.specs.Limits.{most_moved, most_movements}
+use Rattle.movement.specs.Limits.{currencies, most_moved, most_movements}
 use Rattle.movement.specs.Settings.{terms_after}
 use Rattle.movement.specs.Forming.{side_questions, movement_of}
 use Rattle.movement.specs.Consents.{has_duty, silent, consented, is_afternoon}
 
--- the numbers of accounts and of securities noted at the opening, 0 where it failed; day and half; the highest trade number accepted; the terms; the movements on the book
+-- what a book keeps
 pub record Daily : Type 0 where
+  -- the numbers of accounts and of securities, 0 where the opening failed
   pub accounts : ℕ
   pub kinds : ℕ
   pub day : ℕ
   pub half : Half
+  -- the highest trade number accepted
   pub highest : ℕ
   pub terms : Agreed
+  -- the movements on the book
   pub movements : List Movement
 
 -- other terms
@@ -47,7 +50,7 @@ basic_questions d t =
     ∷ (ask (is_some (class_of t.class)) UnknownClass
     ∷ (ask (nat_lt t.security d.kinds) UnknownSecurity
     ∷ (ask (from_one_to most_moved t.quantity) QuantityRange
-    ∷ (ask (nat_lt t.currency 2) UnknownCurrency
+    ∷ (ask (nat_lt t.currency currencies) UnknownCurrency
     ∷ (ask (from_one_to most_moved t.sum) TradeSum
     ∷ (ask (nat_le d.day t.day && nat_le t.day (d.day + longest_wait)) SettlementDay
     ∷ []))))))

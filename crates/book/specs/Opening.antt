@@ -25,14 +25,26 @@ opens_on securities cash day = record { securities = securities; cash = cash; da
 abbrev pub sums_within : Holdings → Bool
 sums_within h = list_all (λ k. nat_le (total h k) limit) (range_with_len 0 h.kinds)
 
+-- from 2 to 32 accounts, as many in both registers
+abbrev pub accounts_fit : Opening → Bool
+accounts_fit o =
+    o.securities.accounts == o.cash.accounts
+    && (nat_le 2 o.securities.accounts && nat_le o.securities.accounts most_accounts)
+
+-- from 1 to 16 securities, and 2 currencies
+abbrev pub kinds_fit : Opening → Bool
+kinds_fit o =
+    nat_le 1 o.securities.kinds
+    && (nat_le o.securities.kinds most_securities && o.cash.kinds == currencies)
+
 -- the last day on which a book can open
 abbrev pub last_day : ℕ
 last_day = 60000
 
 abbrev pub opening_questions : Opening → List Question
 opening_questions o =
-    ask (o.securities.accounts == o.cash.accounts && (nat_le 2 o.securities.accounts && nat_le o.securities.accounts most_accounts)) AccountCount
-    ∷ (ask (nat_le 1 o.securities.kinds && (nat_le o.securities.kinds most_securities && o.cash.kinds == currencies)) KindCount
+    ask (accounts_fit o) AccountCount
+    ∷ (ask (kinds_fit o) KindCount
     ∷ (ask (sums_within o.securities && sums_within o.cash) OpeningSum
     ∷ (ask (nat_le o.day last_day) FirstDay
     ∷ [])))

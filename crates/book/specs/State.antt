@@ -4,10 +4,12 @@ use Rattle.register.specs.Holdings.{Holdings}
 use Rattle.fault.specs.declared.fault.Fault.{Fault}
 use Rattle.book.specs.Daily.{Daily}
 
--- the opening question that failed, if one did; day, members and movements; what the two registers show
 pub record State : Type 0 where
+  -- the opening question that failed, if one did
   pub failed : Option Fault
+  -- the day, the members and the movements
   pub daily : Daily
+  -- what the two registers show
   pub securities : Holdings
   pub cash : Holdings
 

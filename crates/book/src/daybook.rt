@@ -7,7 +7,7 @@ ghost use Rattle.book.specs.Rising.{IsRising};
 use crate::paying::is_movable;
 use arrayvec::ArrayVec;
 use fault::{Fault, ask};
-use movement::{Class, Half, MAX_MOVEMENTS, Movement, Setting, Terms, Trade, form};
+use movement::{CURRENCIES, Class, Half, MAX_MOVEMENTS, Movement, Setting, Terms, Trade, form};
 
 /// How many days ahead a trade can settle.
 pub const LONGEST_WAIT: u32 = 30;
@@ -36,7 +36,8 @@ impl Daybook {
     ghost use Rattle.fault.specs.Questions.{asked};
     ghost use Rattle.movement.specs.Limits.{most_movements};
     ghost use Rattle.book.specs.Books.{daily_of};
-    ghost use Rattle.book.specs.Daily.{basic_questions, cancellable, class_known, has_number, on_book, trade_questions, traded};
+    ghost use Rattle.book.specs.Daily.{basic_questions, trade_questions, class_known, traded};
+    ghost use Rattle.book.specs.Daily.{cancellable, has_number, on_book};
     ghost use Rattle.book.specs.Found.{FoundAt};
     ghost use Rattle.book.specs.Opening.{morning};
     ghost use Rattle.book.specs.Trading.{AgreedTo, Cancelled, ConsentedTo, Entered};
@@ -64,7 +65,8 @@ impl Daybook {
 
     /// Asks what is asked of a trade before its sides, and answers its class.
     fn class_of(&self, trade: Trade) -> Result<Class, Fault>
-        ensures { result ≡ asked (basic_questions (daily_of self.now) trade) (class_known trade.class) }
+        ensures { result
+            ≡ asked (basic_questions (daily_of self.now) trade) (class_known trade.class) }
     {
         ask(
             trade.number >= 1 && trade.number > self.highest,
@@ -73,7 +75,10 @@ impl Daybook {
         let class = Class::try_from(trade.class)?;
         ask(trade.security < self.kinds, Fault::UnknownSecurity)?;
         ask(is_movable(trade.quantity), Fault::QuantityRange)?;
-        ask(trade.currency < 2, Fault::UnknownCurrency)?;
+        ask(
+            usize::from(trade.currency) < CURRENCIES,
+            Fault::UnknownCurrency,
+        )?;
         ask(is_movable(trade.sum), Fault::TradeSum)?;
         let day = u32::from(trade.day);
         ask(
@@ -85,7 +90,8 @@ impl Daybook {
 
     /// Asks every question of a trade, and answers the movement that it forms.
     fn formed(&self, trade: Trade) -> Result<Movement, Fault>
-        ensures formed { result ≡ asked (trade_questions (daily_of self.now) trade) (traded (daily_of self.now) trade) }
+        ensures formed { result ≡ asked (trade_questions (daily_of self.now) trade)
+            (traded (daily_of self.now) trade) }
         ensures room { is_ok result ≡ true → array_vec_len self.now.movements < most_movements }
     {
         let class = self.class_of(trade)?;

@@ -20,7 +20,8 @@ fn sizes<S: Register, C: Register>(
     cash: &C,
     first_day: u32,
 ) -> Result<(u8, u8), Fault>
-    ensures { let o = opens_on (S.Register.shows securities.now) (C.Register.shows cash.now) first_day in
+    ensures { let o = opens_on (S.Register.shows securities.now) (C.Register.shows cash.now)
+        first_day in
         result ≡ asked (opening_questions o) (sizes_of o) }
 {
     let accounts = securities.accounts();

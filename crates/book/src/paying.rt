@@ -32,7 +32,8 @@ fn payable<R: Register>(register: &R, place: Place, entry: Entry) -> Result<(), 
 
 /// Pays an amount into an account or out of it.
 pub fn pay<R: Register>(register: &mut R, place: Place, entry: Entry) -> Result<(), Fault>
-    ensures { Pays (R.Register.shows register.old) place entry result (R.Register.shows register.new) }
+    ensures { Pays (R.Register.shows register.old) place entry result
+        (R.Register.shows register.new) }
 {
     payable(register, place, entry)?;
     register.enter(usize::from(place.kind), usize::from(place.account), entry)?;

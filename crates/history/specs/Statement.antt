@@ -15,11 +15,14 @@ use Rattle.history.specs.declared.call.Call.{Call}
 use Rattle.history.specs.declared.call.Call.TheVariants.{PayIn, PayOut, Terms, Trade, Consent, Cancel, Tell}
 use Rattle.history.specs.History.{Event}
 
--- the signed amount of each side, kind and account; the terms noted; every trade noted, with its custodians, standard pairs and consents; the half of the day
 pub record Statement : Type 0 where
+  -- the signed amount of each side, kind and account
   pub amount : ℕ → ℕ → ℕ → ℤ
+  -- the terms noted
   pub terms : Agreed
+  -- every trade noted, with its custodians, standard pairs and consents
   pub trades : List Movement
+  -- the half of the day
   pub half : Half
 
 -- what is told at the opening
@@ -47,7 +50,8 @@ booked p z t = record t {
 abbrev pub noting : Statement → Agreed → List Movement → Statement
 noting t a ms = record t { terms = a; trades = ms }
 
--- an accepted call: pay-ins add, pay-outs take; terms are noted; a trade is noted by its clearing fields and by lookup in the noted terms; a consent marks its duties
+-- an accepted call: pay-ins add, pay-outs take; terms are noted;
+-- a trade is noted by its clearing fields and by lookup in the noted terms; a consent marks its duties
 abbrev pub read_call : Call → Statement → Statement
 read_call (PayIn p n) t = booked p (pos n) t
 read_call (PayOut p n) t = booked p (neg_ℤ (pos n)) t

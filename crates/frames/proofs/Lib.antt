@@ -1,8 +1,8 @@
 pub mod Chunks
 pub mod Digits
 pub mod Feeding
-pub mod Numbers
+pub mod Fields
 pub mod Pairs
+pub mod Reading
 pub mod Streams
-pub mod Table
 pub mod Texts

@@ -1,70 +1,80 @@
 -- The call that a frame says.
-use Rattle.std.specs.Prelude.{ℕ, ◌+◌, Bool, cond, ◌&&◌, ◌||◌, List, [], ◌∷◌, length, Some, None, Ok, Err, Option, Result, ◌==◌, nat_le, slice_index}
+use Rattle.std.specs.Prelude.{ℕ, ◌+◌, List, [], ◌∷◌, length, drop, Some, None, Ok, Err, Option, Result, if◌then◌else◌, ◌==◌, slice_index}
+use Rattle.std.specs.Int.{w16, w32, w64}
 use Rattle.fault.specs.declared.fault.Fault.{Fault}
-use Rattle.fault.specs.declared.fault.Fault.TheVariants.{NoFrame, UnknownCode, FrameLength}
+use Rattle.fault.specs.declared.fault.Fault.TheVariants.{NoFrame, FrameLength}
 use Rattle.movement.specs.declared.terms.Setting.{Setting}
 use Rattle.movement.specs.declared.trade.Trade.{Trade as Report}
 use Rattle.movement.specs.declared.trade.TradeSide.{TradeSide}
 use Rattle.book.specs.declared.place.Place.{Place}
 use Rattle.history.specs.declared.call.Call.{Call}
 use Rattle.history.specs.declared.call.Call.TheVariants.{PayIn, PayOut, Terms, Trade, Consent, Cancel, Tell}
+use Rattle.frames.specs.declared.code.Code.{Code}
+use Rattle.frames.specs.declared.code.Code.TheVariants as codes
 use Rattle.frames.specs.Bytes.{number_at}
+use Rattle.frames.specs.Codes.{code_of, frame_len}
 use Rattle.frames.specs.Hex.{line_bytes}
 
--- the first byte of a frame
-abbrev pub code : List ℕ → ℕ
-code bytes = slice_index bytes 0
+-- Below, the fields of a frame are its bytes after the code.
 
--- side, kind and account, a byte each after the code
+-- a place: side, kind and account, a byte each
 abbrev pub place_in : List ℕ → Place
-place_in bytes = record { side = slice_index bytes 1; kind = slice_index bytes 2; account = slice_index bytes 3 }
-
--- the codes that are offered
-abbrev pub offered : ℕ → Bool
-offered c = (nat_le 1 c && nat_le c 6) || c == 10
-
--- the call, where the frame has as many bytes as its code asks, the code counted
-abbrev pub of_length : ℕ → List ℕ → Call → Result Call Fault
-of_length n bytes call = cond (length bytes == n) (Ok call) (Err FrameLength)
+place_in fields = record {
+  side = slice_index fields 0;
+  kind = slice_index fields 1;
+  account = slice_index fields 2;
+}
 
 -- terms: member, category, custodian of securities, custodian of cash, a byte each
 abbrev pub setting_in : List ℕ → Setting
-setting_in bytes = record { member = slice_index bytes 1; category = slice_index bytes 2; securities = slice_index bytes 3; cash = slice_index bytes 4 }
+setting_in fields = record {
+  member = slice_index fields 0;
+  category = slice_index fields 1;
+  securities = slice_index fields 2;
+  cash = slice_index fields 3;
+}
 
 -- a side of a trade from a place on: member and category, a byte each, and four bytes of clearing field
 abbrev pub side_at : ℕ → List ℕ → TradeSide
-side_at place bytes = record {
-  member = slice_index bytes place;
-  category = slice_index bytes (place + 1);
-  clearing = slice_index bytes (place + 2) ∷ (slice_index bytes (place + 3) ∷ (slice_index bytes (place + 4) ∷ (slice_index bytes (place + 5) ∷ [])));
+side_at place fields = record {
+  member = slice_index fields place;
+  category = slice_index fields (place + 1);
+  clearing = slice_index fields (place + 2) ∷ (slice_index fields (place + 3) ∷ (slice_index fields (place + 4) ∷ (slice_index fields (place + 5) ∷ [])));
 }
 
 -- a trade: number 4, class 1, security 1, quantity 8, currency 1, sum 8, day 2, seller 6, buyer 6
 abbrev pub trade_in : List ℕ → Report
-trade_in bytes = record {
-  number = number_at 1 4 bytes;
-  class = slice_index bytes 5;
-  security = slice_index bytes 6;
-  quantity = number_at 7 8 bytes;
-  currency = slice_index bytes 15;
-  sum = number_at 16 8 bytes;
-  day = number_at 24 2 bytes;
-  seller = side_at 26 bytes;
-  buyer = side_at 32 bytes;
+trade_in fields = record {
+  number = number_at w32 0 fields;
+  class = slice_index fields 4;
+  security = slice_index fields 5;
+  quantity = number_at w64 6 fields;
+  currency = slice_index fields 14;
+  sum = number_at w64 15 fields;
+  day = number_at w16 23 fields;
+  seller = side_at 25 fields;
+  buyer = side_at 31 fields;
 }
 
--- 01 pay in, 02 pay out, 03 terms, 04 trade, 05 consent, 06 cancel, 0A tell
+-- the call of a code
+abbrev pub call_in : Code → List ℕ → Call
+call_in codes.PayIn fields = PayIn (place_in fields) (number_at w64 3 fields)
+call_in codes.PayOut fields = PayOut (place_in fields) (number_at w64 3 fields)
+call_in codes.Terms fields = Terms (setting_in fields)
+call_in codes.Trade fields = Trade (trade_in fields)
+call_in codes.Consent fields = Consent (number_at w32 0 fields) (slice_index fields 4)
+call_in codes.Cancel fields = Cancel (number_at w32 0 fields)
+call_in codes.Tell fields = Tell (place_in fields)
+
+-- the call, where the code is one and the frame has as many bytes as it asks
+abbrev pub call_with : List ℕ → Result Code Fault → Result Call Fault
+call_with bytes (Ok code) =
+    if length bytes == frame_len code then Ok (call_in code (drop 1 bytes)) else Err FrameLength
+call_with bytes (Err fault) = Err fault
+
+-- the first byte of a frame is its code
 abbrev pub frame_call : List ℕ → Result Call Fault
-frame_call bytes =
-    cond (offered (code bytes))
-    (cond (code bytes == 1) (of_length 12 bytes (PayIn (place_in bytes) (number_at 4 8 bytes)))
-    (cond (code bytes == 2) (of_length 12 bytes (PayOut (place_in bytes) (number_at 4 8 bytes)))
-    (cond (code bytes == 3) (of_length 5 bytes (Terms (setting_in bytes)))
-    (cond (code bytes == 4) (of_length 38 bytes (Trade (trade_in bytes)))
-    (cond (code bytes == 5) (of_length 6 bytes (Consent (number_at 1 4 bytes) (slice_index bytes 5)))
-    (cond (code bytes == 6) (of_length 5 bytes (Cancel (number_at 1 4 bytes)))
-    (of_length 4 bytes (Tell (place_in bytes)))))))))
-    (Err UnknownCode)
+frame_call bytes = call_with bytes (code_of (slice_index bytes 0))
 
 abbrev pub call_of : Option (List ℕ) → Result Call Fault
 call_of None = Err NoFrame

@@ -1,5 +1,6 @@
 pub mod Bytes
 pub mod Calls
+pub mod Codes
 pub mod Frames
 pub mod Hex
 pub mod Replies

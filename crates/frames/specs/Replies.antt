@@ -1,5 +1,6 @@
 -- The line that answers a line.
-use Rattle.std.specs.Prelude.{◌≡◌, ℕ, ◌+◌, ◌-◌, ◌<◌, ◌≤◌, Bool, true, false, cond, List, [], ◌∷◌, ◌++◌, Ok, Err, vec_items, vec_len, vec_capacity, Result, Vec}
+use Rattle.std.specs.Prelude.{◌≡◌, ℕ, ◌+◌, ◌-◌, ◌<◌, ◌≤◌, Bool, true, false, if◌then◌else◌, List, [], ◌∷◌, ◌++◌, Ok, Err, vec_items, vec_len, vec_capacity, Result, Vec}
+use Rattle.std.specs.Int.{w64, to_be_bytes}
 use Rattle.fault.specs.declared.fault.Fault.{Fault}
 use Rattle.fault.specs.Numbers.{fault_number}
 use Rattle.book.specs.State.{State}
@@ -8,14 +9,13 @@ use Rattle.history.specs.declared.call.Answer.{Answer}
 use Rattle.history.specs.declared.call.Answer.TheVariants.{Done, Amount}
 use Rattle.history.specs.Step.{answer, after}
 use Rattle.history.specs.Law.{Performed}
-use Rattle.frames.specs.Bytes.{bytes_of}
 use Rattle.frames.specs.Hex.{hex_text}
 use Rattle.frames.specs.Calls.{line_call}
 
 -- what an accepted call answers after its 00
 abbrev pub result_bytes : Answer → List ℕ
 result_bytes Done = []
-result_bytes (Amount n) = bytes_of 8 n
+result_bytes (Amount n) = to_be_bytes w64 n
 
 -- 00 and the result, or FF and the number of the refusal
 abbrev pub answer_bytes : Result Answer Fault → List ℕ
@@ -26,7 +26,7 @@ answer_bytes (Err f) = 255 ∷ (fault_number f ∷ [])
 abbrev pub answer_line : Result Answer Fault → List ℕ
 answer_line r = hex_text (answer_bytes r) ++ (10 ∷ [])
 
--- no answer's line is longer: nine bytes and the end of the line
+-- no answer's line is longer: two digits for each of nine bytes, and the end of the line
 abbrev pub longest : ℕ
 longest = 19
 
@@ -59,9 +59,10 @@ spare v = vec_capacity v - vec_len v
 
 -- a line was answered by a line, or, where it was not done for want of room and memory, nothing changed
 pub record Responded {Z : Type 0} (line : List ℕ) (s t : State) (out out' : Vec ℕ Z) (done : Bool) : Type 0 where
-  pub written : vec_items out' ≡ cond done (vec_items out ++ answer_line (line_answer s line)) (vec_items out)
-  pub becomes : t ≡ cond done (after_line s line) s
+  pub written : vec_items out' ≡ (if done then vec_items out ++ answer_line (line_answer s line) else vec_items out)
+  pub becomes : t ≡ (if done then after_line s line else s)
   pub answered : done ≡ true → LineAnswered line s (line_answer s line) t
   pub stopped : done ≡ false → spare out < longest
-  -- it takes at most the longest line's room
-  pub used : spare out ≤ spare out' + cond done longest 0
+  -- it takes at most the longest line's room, and gives none back
+  pub used : spare out ≤ spare out' + (if done then longest else 0)
+  pub keeps_room : vec_capacity out ≤ vec_capacity out'

@@ -1,15 +1,15 @@
 -- What is kept of a line that comes in parts.
 use Rattle.std.specs.Prelude.{◌≡◌, ℕ, List, take}
 use Rattle.frames.specs.Hex.{line_bytes}
-use Rattle.frames.specs.declared.partial.Partial.{Partial}
 
-abbrev pub kept : Partial → List ℕ
-kept p = take p.len p.bytes
+-- how many characters of a line are kept: one more than the longest line that says bytes
+abbrev pub most_kept : ℕ
+most_kept = 77
 
--- the law: the first 77 characters of a line say what the whole line says
+-- the first characters of a text: a line that has more is refused whatever they are
+abbrev pub kept : List ℕ → List ℕ
+kept text = take most_kept text
+
+-- the law: what is kept of a line says what the whole line says
 abbrev pub CutAlike : Type 0
-CutAlike = (line : List ℕ) → line_bytes (take 77 line) ≡ line_bytes line
-
--- the first 77 characters of a text are kept
-abbrev pub Keeps : Partial → List ℕ → Type 0
-Keeps pending text = kept pending ≡ take 77 text
+CutAlike = (line : List ℕ) → line_bytes (kept line) ≡ line_bytes line

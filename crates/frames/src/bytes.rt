@@ -1,44 +1,24 @@
-// Numbers as bytes, the most significant byte first.
-ghost use Rattle.std.specs.Prelude.{◌≡◌, ◌+◌, ◌≤◌, length};
-ghost use Rattle.frames.specs.Bytes.{bytes_of, number, number_at};
+//! Bytes, field by field, and numbers as bytes, the most significant byte first.
+ghost use Rattle.std.specs.Prelude.{◌≡◌, ◌+◌, ◌≤◌, length, take, drop};
+ghost use Rattle.std.specs.Int.{w64, from_be_bytes, to_be_bytes};
 
-// The number of eight bytes from a place on.
-pub(crate) fn u64_at(b: &[u8], at: usize) -> u64
-    requires { at + 8 ≤ length b.now }
-    ensures { result ≡ number_at at 8 b.now }
+// The next field, of `N` bytes, and the bytes after it.
+pub(crate) fn field<const N: usize>(bytes: &[u8]) -> ([u8; N], &[u8])
+    requires { N ≤ length bytes.now }
+    ensures field { result.0 ≡ take N bytes.now }
+    ensures rest { result.1.now ≡ drop N bytes.now }
+    ensures len { length result.1.now + N ≡ length bytes.now }
 {
-    u64::from_be_bytes([
-        b[at],
-        b[at + 1],
-        b[at + 2],
-        b[at + 3],
-        b[at + 4],
-        b[at + 5],
-        b[at + 6],
-        b[at + 7],
-    ])
+    let (front, rest) = bytes.split_at(N);
+    let mut field = [0; N];
+    field.copy_from_slice(front);
+    (field, rest)
 }
 
-// The number of four bytes from a place on.
-pub(crate) fn u32_at(b: &[u8], at: usize) -> u32
-    requires { at + 4 ≤ length b.now }
-    ensures { result ≡ number_at at 4 b.now }
-{
-    u32::from_be_bytes([b[at], b[at + 1], b[at + 2], b[at + 3]])
-}
-
-// The number of two bytes from a place on.
-pub(crate) fn u16_at(b: &[u8], at: usize) -> u16
-    requires { at + 2 ≤ length b.now }
-    ensures { result ≡ number_at at 2 b.now }
-{
-    u16::from_be_bytes([b[at], b[at + 1]])
-}
-
-// The eight bytes of a number.
+/// The eight bytes of a number.
 pub fn u64_bytes(n: u64) -> [u8; 8]
-    ensures bytes { result ≡ bytes_of 8 n }
-    ensures back { number result ≡ n }
+    ensures bytes { result ≡ to_be_bytes w64 n }
+    ensures back { from_be_bytes w64 result ≡ n }
 {
     n.to_be_bytes()
 }

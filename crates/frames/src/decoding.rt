@@ -1,94 +1,138 @@
-// The call that a frame says.
-ghost use Rattle.std.specs.Prelude.{◌≡◌, ◌+◌, ◌≤◌, length};
-ghost use Rattle.frames.specs.Calls.{frame_call, offered, place_in, setting_in, side_at, trade_in};
+//! The call that a frame says.
+ghost use Rattle.std.specs.Prelude.{◌≡◌, ◌+◌, ◌≤◌, length, drop};
+ghost use Rattle.std.specs.Int.{w64};
+ghost use Rattle.frames.specs.Bytes.{number_at};
+ghost use Rattle.frames.specs.Calls.{call_in, frame_call, place_in, setting_in, side_at, trade_in};
+ghost use Rattle.frames.specs.Codes.{frame_len};
 
-use crate::bytes::{u16_at, u32_at, u64_at};
+use crate::bytes::field;
+use crate::code::Code;
 use book::Place;
 use fault::Fault;
 use history::Call;
 use movement::{Setting, Trade, TradeSide};
 
-// The place after the code.
-fn place_in(bytes: &[u8]) -> Place
-    requires { 4 ≤ length bytes.now }
-    ensures { result ≡ place_in bytes.now }
-{
-    Place {
-        side: bytes[1],
-        kind: bytes[2],
-        account: bytes[3],
-    }
-}
-
-// The terms after the code.
-fn setting_in(bytes: &[u8]) -> Setting
-    requires { 5 ≤ length bytes.now }
-    ensures { result ≡ setting_in bytes.now }
-{
-    Setting {
-        member: bytes[1],
-        category: bytes[2],
-        securities: bytes[3],
-        cash: bytes[4],
-    }
-}
-
-// A side of a trade, from a place on.
-fn side_at(bytes: &[u8], at: usize) -> TradeSide
-    requires { at + 6 ≤ length bytes.now }
-    ensures { result ≡ side_at at bytes.now }
-{
-    TradeSide {
-        member: bytes[at],
-        category: bytes[at + 1],
-        clearing: [bytes[at + 2], bytes[at + 3], bytes[at + 4], bytes[at + 5]],
-    }
-}
-
-// The trade after the code.
-fn trade_in(bytes: &[u8]) -> Trade
-    requires { 38 ≤ length bytes.now }
-    ensures { result ≡ trade_in bytes.now }
-{
-    Trade {
-        number: u32_at(bytes, 1),
-        class: bytes[5],
-        security: bytes[6],
-        quantity: u64_at(bytes, 7),
-        currency: bytes[15],
-        sum: u64_at(bytes, 16),
-        day: u16_at(bytes, 24),
-        seller: side_at(bytes, 26),
-        buyer: side_at(bytes, 32),
-    }
-}
-
-fn is_offered(code: u8) -> bool
-    ensures { result ≡ offered code }
-{
-    code >= 0x01 && code <= 0x06 || code == 0x0A
-}
-
-// The call of a frame: refused where its code is not offered, then where its length does not fit.
+/// The call of a frame: refused where its code is not offered, then where its length does not fit.
 pub fn decode(bytes: &[u8]) -> Result<Call, Fault>
     ensures { result ≡ frame_call bytes.now }
 {
-    let Some(code) = bytes.first() else {
+    let [code, fields @ ..] = bytes else {
         return Err(Fault::UnknownCode);
     };
-    let code = *code;
-    if !is_offered(code) {
-        return Err(Fault::UnknownCode);
+    let code = Code::try_from(*code)?;
+    if bytes.len() != code.frame_len() {
+        return Err(Fault::FrameLength);
     }
-    let len = bytes.len();
+    Ok(call_in(code, fields))
+}
+
+// The call of a code, by the fields after it.
+fn call_in(code: Code, fields: &[u8]) -> Call
+    requires { length fields.now + 1 ≡ frame_len code }
+    ensures { result ≡ call_in code fields.now }
+{
     match code {
-        0x01 if len == 12 => Ok(Call::PayIn(place_in(bytes), u64_at(bytes, 4))),
-        0x02 if len == 12 => Ok(Call::PayOut(place_in(bytes), u64_at(bytes, 4))),
-        0x03 if len == 5 => Ok(Call::Terms(setting_in(bytes))),
-        0x04 if len == 38 => Ok(Call::Trade(trade_in(bytes))),
-        0x05 if len == 6 => Ok(Call::Consent(u32_at(bytes, 1), bytes[5])),
-        0x06 if len == 5 => Ok(Call::Cancel(u32_at(bytes, 1))),
-        0x0A if len == 4 => Ok(Call::Tell(place_in(bytes))),
-        _ => Err(Fault::FrameLength),
+        Code::PayIn => {
+            let (place, amount) = payment_in(fields);
+            Call::PayIn(place, amount)
+        }
+        Code::PayOut => {
+            let (place, amount) = payment_in(fields);
+            Call::PayOut(place, amount)
+        }
+        Code::Terms => Call::Terms(setting_in(fields)),
+        Code::Trade => Call::Trade(trade_in(fields)),
+        Code::Consent => {
+            let (number, fields) = field(fields);
+            let ([participant], _) = field::<1>(fields);
+            Call::Consent(u32::from_be_bytes(number), participant)
+        }
+        Code::Cancel => {
+            let (number, _) = field(fields);
+            Call::Cancel(u32::from_be_bytes(number))
+        }
+        Code::Tell => Call::Tell(place_in(fields)),
+    }
+}
+
+fn place_in(fields: &[u8]) -> Place
+    requires { 3 ≤ length fields.now }
+    ensures { result ≡ place_in fields.now }
+{
+    let ([side, kind, account], _) = field::<3>(fields);
+    Place {
+        side,
+        kind,
+        account,
+    }
+}
+
+// A place and an amount.
+fn payment_in(fields: &[u8]) -> (Place, u64)
+    requires { 11 ≤ length fields.now }
+    ensures place { result.0 ≡ place_in fields.now }
+    ensures amount { result.1 ≡ number_at w64 3 fields.now }
+{
+    let ([side, kind, account], fields) = field::<3>(fields);
+    let (amount, _) = field(fields);
+    let place = Place {
+        side,
+        kind,
+        account,
+    };
+    (place, u64::from_be_bytes(amount))
+}
+
+fn setting_in(fields: &[u8]) -> Setting
+    requires { 4 ≤ length fields.now }
+    ensures { result ≡ setting_in fields.now }
+{
+    let ([member, category, securities, cash], _) = field::<4>(fields);
+    Setting {
+        member,
+        category,
+        securities,
+        cash,
+    }
+}
+
+// A side of a trade, and the fields after it.
+fn side_in(fields: &[u8]) -> (TradeSide, &[u8])
+    requires { 6 ≤ length fields.now }
+    ensures side { result.0 ≡ side_at 0 fields.now }
+    ensures rest { result.1.now ≡ drop 6 fields.now }
+{
+    let ([member, category], fields) = field::<2>(fields);
+    let (clearing, fields) = field(fields);
+    let side = TradeSide {
+        member,
+        category,
+        clearing,
+    };
+    (side, fields)
+}
+
+fn trade_in(fields: &[u8]) -> Trade
+    requires { 37 ≤ length fields.now }
+    ensures { result ≡ trade_in fields.now }
+{
+    let (number, fields) = field(fields);
+    let ([class, security], fields) = field::<2>(fields);
+    let (quantity, fields) = field(fields);
+    let ([currency], fields) = field::<1>(fields);
+    let (sum, fields) = field(fields);
+    let (day, fields) = field(fields);
+    let (seller, fields) = side_in(fields);
+    let (buyer, _) = side_in(fields);
+    Trade {
+        number: u32::from_be_bytes(number),
+        class,
+        security,
+        quantity: u64::from_be_bytes(quantity),
+        currency,
+        sum: u64::from_be_bytes(sum),
+        day: u16::from_be_bytes(day),
+        seller,
+        buyer,
     }
 }

@@ -1,6 +1,14 @@
-// Hexadecimal digits, one character at a time.
+//! Hexadecimal digits, one character at a time.
 ghost use Rattle.std.specs.Prelude.{◌≡◌};
 ghost use Rattle.frames.specs.Hex.{digit_value, entry_value};
+
+/// The number that a character stands for.
+pub fn digit(c: u8) -> Option<u8>
+    ensures { result ≡ digit_value c }
+{
+    let value = entry(c);
+    (value < 16).then_some(value)
+}
 
 // The entry of a character.
 fn entry(c: u8) -> u8
@@ -9,14 +17,7 @@ fn entry(c: u8) -> u8
     VALUES[c as usize]
 }
 
-// The number that a character stands for.
-pub fn digit(c: u8) -> Option<u8>
-    ensures { result ≡ digit_value c }
-{
-    let value = entry(c);
-    if value < 16 { Some(value) } else { None }
-}
-
+// Stays: the customer names a table of 256 entries that one computed test compares with the rule of digits.
 // The number that each character stands for, 255 where it is no digit.
 const VALUES: [u8; 256] = [
     255, 255, 255, 255, 255, 255, 255, 255, 255, 255, 255, 255, 255, 255, 255, 255, 255, 255, 255,

@@ -1,21 +1,23 @@
-// A line is answered by a line.
+//! A line is answered by a line.
 ghost use Rattle.std.specs.Prelude.{is_ok};
 ghost use Rattle.frames.specs.Replies.{Responded};
 
 use crate::reply::answer;
-use crate::writing::{LONGEST, write_answer};
+use crate::writing::{MAX_REPLY, reply_line};
 use book::Settlement;
 use std::alloc::AllocError;
 
-// Answers a line over a book and appends the line of the answer. Want of memory stops it before anything is done.
+/// Answers a line over a book and appends the line of the answer. Want of memory stops it before anything is done.
 pub fn respond<B: Settlement>(
     book: &mut B,
     line: &[u8],
     out: &mut Vec<u8>,
 ) -> Result<(), AllocError>
-    ensures { Responded line.now (B.Settlement.state book.old) (B.Settlement.state book.new) out.old out.new (is_ok result) }
+    ensures { Responded line.now (B.Settlement.state book.old) (B.Settlement.state book.new)
+        out.old out.new (is_ok result) }
 {
-    out.reserve(LONGEST)?;
-    write_answer(out, answer(book, line));
+    out.reserve(MAX_REPLY)?;
+    let reply = reply_line(answer(book, line));
+    out.extend_from_slice(&reply).unwrap();
     Ok(())
 }

@@ -1,74 +1,173 @@
-// Lines come in chunks of text and are answered one after the other.
-ghost use Rattle.std.specs.Prelude.{◌≡◌, ℕ, true, List, [], ◌∷◌, ◌++◌, length, is_ok, if◌then◌else◌, MatchOption};
-ghost use Rattle.frames.specs.Sessions.{ChunksAlike, Ended, Fed, FirstNewline, LinesLawful, NoNewline, last_line};
-ghost use Rattle.frames.specs.Stream.{Keeps, kept};
+//! Lines come in chunks of text and are answered one after the other.
+ghost use Rattle.std.specs.Prelude.{◌≡◌, ◌*◌, ◌<◌, ◌≤◌, [], ◌∷◌, ◌++◌, length, vec_len, vec_capacity, is_ok, if◌then◌else◌, IfOk, OnOk, IfSome};
+ghost use Rattle.std.specs.Io.KnownBytes.{Appends};
+ghost use Rattle.frames.specs.Replies.{longest};
+ghost use Rattle.frames.specs.Sessions.{ChunksAlike, Ended, Fed, LinesLawful, Serves, TextsAlike, after_lines, answers, last_line, lines, rest};
+ghost use Rattle.frames.specs.Stream.{kept};
 
 use crate::partial::Partial;
 use crate::responding::respond;
+use crate::writing::MAX_REPLY;
 use book::Settlement;
-use std::alloc::AllocError;
+use memchr::memchr;
+use std::alloc::{AllocError, Global};
+use std::io;
+use std::io::{ErrorKind, Read, Write};
 
-// Where the first newline of a text is.
-fn newline(text: &[u8]) -> Option<usize>
-    ensures { MatchOption result (NoNewline text.now (length text.now)) (FirstNewline text.now) }
-{
-    for (i, c) in text.iter().enumerate() {
-        if *c == b'\n' {
-            return Some(i);
+// How much is read at a time.
+const CHUNK: usize = 32_768;
+
+/// A book, and what has come of a line so far.
+#[derive(Drop)]
+pub struct Session<B> {
+    pub book: B,
+    pub pending: Partial,
+}
+
+impl<B: Settlement> Session<B> {
+    /// A session over a book, before any text.
+    pub fn new(book: B) -> Session<B>
+        ensures book { result.book ≡ book }
+        ensures pending { result.pending ≡ [] }
+    {
+        Session {
+            book,
+            pending: Partial::new(),
         }
     }
-    None
+
+    /// Answers each line that ends in a chunk of text, and keeps what is left for the next one.
+    /// Where memory is wanting, the first of the lines are answered, and nothing is said of what is kept.
+    pub fn feed(&mut self, chunk: &[u8], out: &mut Vec<u8>) -> Result<(), AllocError>
+        ensures feeds { Fed self.old.pending chunk.now
+            (B.Settlement.state self.old.book) (B.Settlement.state self.new.book)
+            out.old out.new self.new.pending (is_ok result) }
+
+        // What holds of the characters that are kept holds of the whole text before the chunk.
+        ensures texts { TextsAlike }
+        ensures chunks { ChunksAlike }
+        ensures lawful { LinesLawful }
+    {
+        let mut left = chunk;
+        while let Some(end) = memchr(b'\n', left) {
+            let (line, after) = left.split_at(end);
+            self.end_line(line, out)?;
+            left = &after[1..];
+        }
+        self.pending.extend(left);
+        Ok(())
+    }
+
+    // Answers the line that a part ends.
+    fn end_line(&mut self, part: &[u8], out: &mut Vec<u8>) -> Result<(), AllocError>
+        ensures answers { Ended ((self.old.pending ++ part.now) ∷ [])
+            (B.Settlement.state self.old.book) (B.Settlement.state self.new.book)
+            out.old out.new (is_ok result) }
+        ensures clears { OnOk result (self.new.pending ≡ []) }
+    {
+        if self.pending.is_empty() {
+            return respond(&mut self.book, part, out);
+        }
+        self.pending.extend(part);
+        self.finish(out)
+    }
+
+    /// Answers the line whose end has not come, at the end of the input. An empty one is no line.
+    pub fn finish(&mut self, out: &mut Vec<u8>) -> Result<(), AllocError>
+        ensures answers { Ended (last_line self.old.pending)
+            (B.Settlement.state self.old.book) (B.Settlement.state self.new.book)
+            out.old out.new (is_ok result) }
+        ensures clears { self.new.pending ≡ (if is_ok result then [] else self.old.pending) }
+    {
+        if !self.pending.is_empty() {
+            respond(&mut self.book, self.pending.as_slice(), out)?;
+            self.pending.clear();
+        }
+        Ok(())
+    }
+
+    /// Answers each line that a reader has, the last one too where its end does not come. Memory is
+    /// wanted before anything is read, and not after that. After an error some of what was read may
+    /// be answered and its answers not written.
+    pub fn serve<R: Read, W: Write>(
+        &mut self,
+        alloc: Global,
+        input: &mut R,
+        output: &mut W,
+    ) -> io::Result<()>
+        ensures { OnOk result (IfSome (R.remaining input.old) (λ text. Serves self.old.pending text
+            (B.Settlement.state self.old.book) (B.Settlement.state self.new.book)
+            (W.contents output.old) (W.contents output.new))) }
+    {
+        let mut chunk = zeros(alloc, CHUNK)?;
+        let mut out = Vec::with_capacity(alloc, MAX_REPLY * CHUNK)?;
+        self.serve_with(&mut chunk, &mut out, input, output)
+    }
+
+    // The same, with room for what is read at a time and for the answers to that much.
+    fn serve_with<R: Read, W: Write>(
+        &mut self,
+        chunk: &mut [u8],
+        out: &mut Vec<u8>,
+        input: &mut R,
+        output: &mut W,
+    ) -> io::Result<()>
+        requires some { 0 < length chunk.old }
+        requires room { longest * length chunk.old ≤ vec_capacity out.old }
+        ensures { OnOk result (IfSome (R.remaining input.old) (λ text. Serves self.old.pending text
+            (B.Settlement.state self.old.book) (B.Settlement.state self.new.book)
+            (W.contents output.old) (W.contents output.new))) }
+    {
+        for _ in 0..u64::MAX {
+            let count = input.read(chunk)?;
+            if count == 0 {
+                self.answer_last(out, output)?;
+                return Ok(());
+            }
+            self.answer_chunk(&chunk[..count], out, output)?;
+        }
+        Err(io::Error::from(ErrorKind::FileTooLarge))
+    }
+
+    // Answers a chunk and writes the answers, for which there is room.
+    fn answer_chunk<W: Write>(
+        &mut self,
+        chunk: &[u8],
+        out: &mut Vec<u8>,
+        output: &mut W,
+    ) -> io::Result<()>
+        requires { longest * length chunk.now ≤ vec_capacity out.old }
+        ensures written { OnOk result (Appends (W.contents output.old) (W.contents output.new)
+            (answers (B.Settlement.state self.old.book) (lines self.old.pending chunk.now))) }
+        ensures becomes { B.Settlement.state self.new.book
+            ≡ after_lines (B.Settlement.state self.old.book) (lines self.old.pending chunk.now) }
+        ensures keeps { self.new.pending ≡ kept (rest self.old.pending chunk.now) }
+        ensures room { vec_capacity out.old ≤ vec_capacity out.new }
+    {
+        out.clear();
+        self.feed(chunk, out).unwrap();
+        output.write_all(out)?;
+        output.flush()
+    }
+
+    // Answers the line whose end has not come, and writes the answer, for which there is room.
+    fn answer_last<W: Write>(&mut self, out: &mut Vec<u8>, output: &mut W) -> io::Result<()>
+        requires { longest ≤ vec_capacity out.old }
+        ensures written { OnOk result (Appends (W.contents output.old) (W.contents output.new)
+            (answers (B.Settlement.state self.old.book) (last_line self.old.pending))) }
+        ensures becomes { B.Settlement.state self.new.book
+            ≡ after_lines (B.Settlement.state self.old.book) (last_line self.old.pending) }
+    {
+        out.clear();
+        self.finish(out).unwrap();
+        output.write_all(out)?;
+        output.flush()
+    }
 }
 
-// Answers the line whose end has not come, at the end of the input. An empty one is no line.
-pub fn finish<B: Settlement>(
-    book: &mut B,
-    pending: &mut Partial,
-    out: &mut Vec<u8>,
-) -> Result<(), AllocError>
-    ensures answers { (p : List ℕ) → Keeps pending.old p → Ended (last_line p) (B.Settlement.state book.old) (B.Settlement.state book.new) out.old out.new (is_ok result) }
-    ensures clears { kept pending.new ≡ (if is_ok result then [] else kept pending.old) }
+// Room for what is read at a time.
+fn zeros(alloc: Global, len: usize) -> Result<Vec<u8>, AllocError>
+    ensures { IfOk result (λ v. vec_len v ≡ len) }
 {
-    if !pending.is_empty() {
-        respond(book, pending.as_slice(), out)?;
-        pending.clear();
-    }
-    Ok(())
-}
-
-// Answers the line that a part ends.
-fn end_line<B: Settlement>(
-    book: &mut B,
-    pending: &mut Partial,
-    part: &[u8],
-    out: &mut Vec<u8>,
-) -> Result<(), AllocError>
-    ensures answers { (p : List ℕ) → Keeps pending.old p → Ended ((p ++ part.now) ∷ []) (B.Settlement.state book.old) (B.Settlement.state book.new) out.old out.new (is_ok result) }
-    ensures clears { is_ok result ≡ true → kept pending.new ≡ [] }
-{
-    if pending.is_empty() {
-        return respond(book, part, out);
-    }
-    pending.extend(part);
-    finish(book, pending, out)
-}
-
-// Answers each line that ends in a chunk of text, and keeps what is left for the next one. Where memory is wanting, the first of the lines are answered, and nothing is said of what is kept.
-pub fn feed<B: Settlement>(
-    book: &mut B,
-    pending: &mut Partial,
-    chunk: &[u8],
-    out: &mut Vec<u8>,
-) -> Result<(), AllocError>
-    ensures feeds { (p : List ℕ) → Keeps pending.old p → Fed p chunk.now (B.Settlement.state book.old) (B.Settlement.state book.new) out.old out.new pending.new (is_ok result) }
-    ensures chunks { ChunksAlike }
-    ensures lawful { LinesLawful }
-{
-    let mut start = 0;
-    while let Some(n) = newline(&chunk[start..]) {
-        end_line(book, pending, &chunk[start..start + n], out)?;
-        start += n + 1;
-    }
-    pending.extend(&chunk[start..]);
-    Ok(())
+    vec![in alloc; 0; len]
 }

@@ -1,0 +1,34 @@
+use Rattle.std.proofs.Common.{rules}
+use Rattle.std.proofs.lemmas.Result.{err_from_is_err_and}
+use Rattle.frames.proofs.Chunks.{chunks_alike, texts_alike}
+use Rattle.frames.proofs.Feeding.{begins, ends, goes_on, lines_lawful, stops}
+use Rattle.frames.proofs.session.Session.feed.Goals as goal
+
+pub loop-end-init : goal.loop-end-init
+loop-end-init g c = begins _ _ _ _
+
+pub returns-in_err-end_line : goal.returns-in_err-end_line
+returns-in_err-end_line g c =
+    let err = err_from_is_err_and c.from_residual.result c.from_residual.ensures.1 in
+    let (found, is) = c.in-Some.ensures in
+    record {
+      feeds = rw err.1 (stops c.end_line.new.self.pending _ c.in-Some.end c.loop-end.invariant found is c.in_err-end_line.ensures.answers);
+      texts = texts_alike;
+      chunks = chunks_alike;
+      lawful = lines_lawful;
+    }
+
+pub loop-end-preserved : goal.loop-end-preserved
+loop-end-preserved g c =
+    let (found, is) = c.in-Some.ensures in
+    let told = c.in_ok-end_line.ensures in
+    goes_on c.in-Some.end c.loop-end.invariant found is (search rules) (search rules) told.answers told.clears
+
+pub returns : goal.returns
+returns g c =
+    record {
+      feeds = ends _ c.loop-end.invariant c.in_default.ensures (search rules);
+      texts = texts_alike;
+      chunks = chunks_alike;
+      lawful = lines_lawful;
+    }

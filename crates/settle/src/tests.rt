@@ -1,0 +1,47 @@
+use crate::settling::settle;
+use std::io;
+use std::io::{ErrorKind, Read};
+use std::test::*;
+
+// Gives its text a byte at a time, and then an error.
+#[derive(Drop)]
+struct Torn<'a> {
+    text: &'a [u8],
+    at: usize,
+}
+
+impl<'a> Read for Torn<'a> {
+    fn read(&mut self, buf: &mut [u8]) -> io::Result<usize> {
+        match (self.text.get(self.at), buf.first_mut()) {
+            (Some(byte), Some(place)) => {
+                *place = *byte;
+                self.at = self.at.saturating_add(1);
+                Ok(1)
+            }
+            _ => Err(io::Error::from(ErrorKind::ConnectionReset)),
+        }
+    }
+}
+
+#[test]
+fn answers_each_line_and_the_last_without_its_end(rt: HostRuntime) -> Result<(), Fail> {
+    let mut input = b"01000001000000000000000A\n0A000001\nxyz\n0A000000".as_slice();
+    let mut output = Vec::new(rt.alloc());
+    settle(rt.alloc(), &mut input, &mut output)?;
+    let answers = b"00\n00000000000000000A\nFF50\n000000000000000000\n".as_slice();
+    assert_eq!(rt; output.as_slice(), answers);
+    Ok(())
+}
+
+#[test]
+fn answers_the_whole_lines_before_an_error(rt: HostRuntime) -> Result<(), Fail> {
+    let mut input = Torn {
+        text: b"01000001000000000000000A\n0A0000",
+        at: 0,
+    };
+    let mut output = Vec::new(rt.alloc());
+    let result = settle(rt.alloc(), &mut input, &mut output);
+    assert!(rt; result.is_err_and(|e| e.kind() == ErrorKind::ConnectionReset));
+    assert_eq!(rt; output.as_slice(), b"00\n".as_slice());
+    Ok(())
+}

@@ -25,6 +25,10 @@ opens_on securities cash day = record { securities = securities; cash = cash; da
 abbrev pub sums_within : Holdings → Bool
 sums_within h = list_all (λ k. nat_le (total h k) limit) (range_with_len 0 h.kinds)
 
+-- the last day on which a book can open
+abbrev pub last_day : ℕ
+last_day = 60000
+
 -- from 2 to 32 accounts, as many in both registers
 abbrev pub accounts_fit : Opening → Bool
 accounts_fit o =
@@ -36,10 +40,6 @@ abbrev pub kinds_fit : Opening → Bool
 kinds_fit o =
     nat_le 1 o.securities.kinds
     && (nat_le o.securities.kinds most_securities && o.cash.kinds == currencies)
-
--- the last day on which a book can open
-abbrev pub last_day : ℕ
-last_day = 60000
 
 abbrev pub opening_questions : Opening → List Question
 opening_questions o =

@@ -1,5 +1,7 @@
 pub mod Totals
 pub mod Payments
-pub mod Asking
+pub mod Openings
+pub mod Soundness
 pub mod Trades
 pub mod Finding
+pub mod Ordering

@@ -1,10 +1,10 @@
 -- The questions of a trade, asked in parts.
-use Rattle.std.proofs.Common.{◌≡◌, ◌<◌, ◌≤◌, true, ltb, leb, [], ◌∷◌, ◌++◌, length, None, Ok, Err, Result, ap, ◌∙◌}
-use Rattle.std.proofs.lemmas.Bool.{and_from, and_parts, lt-ltb, le-ltb}
+use Rattle.std.proofs.Common.{◌≡◌, ◌<◌, true, ltb, leb, ◌++◌, None, Ok, Err, Result, ap, ◌∙◌, arith}
+use Rattle.std.proofs.lemmas.Bool.{and_from, and_parts}
+use Rattle.std.proofs.lemmas.Bool.Decides.{nat_tests}
 use Rattle.fault.specs.declared.fault.Fault.{Fault}
-use Rattle.fault.specs.declared.fault.Fault.TheVariants.{BookFull}
-use Rattle.fault.specs.Questions.{asked, ask, first_no}
-use Rattle.fault.proofs.Asking.{all_hold, asked_stops, asked_goes, asked_value, first_no_parts}
+use Rattle.fault.specs.Questions.{asked, first_no, passes}
+use Rattle.fault.proofs.Asking.{all_hold, asked_stops, asked_goes, asked_fault, asked_value, first_no_parts}
 use Rattle.movement.specs.declared.class.Class.{Class}
 use Rattle.movement.specs.declared.movement.Movement.{Movement}
 use Rattle.movement.specs.declared.trade.Trade.{Trade}
@@ -33,15 +33,15 @@ module _ (d : Daily) (t : Trade) where
     room_asked : {m : Movement} → sides_answer class ≡ Ok m → asked (trade_questions d t) (traded d t) ≡ asked (room_left d) (traded d t)
     room_asked e = sides_left ∙ asked_goes (both_sides d t) (room_left d) (movement_of d.terms class t) (traded d t) e
 
-    pub refused_last : {m : Movement} → sides_answer class ≡ Ok m → 128 ≤ length d.movements → asked (trade_questions d t) (traded d t) ≡ Err BookFull
-    refused_last e full = room_asked e ∙ ap (λ b. asked (ask b BookFull ∷ []) (traded d t)) (le-ltb (length d.movements) 128 full)
+    pub refused_last : {m : Movement} → sides_answer class ≡ Ok m → {f : Fault} → passes (room_left d) ≡ Err f → asked (trade_questions d t) (traded d t) ≡ Err f
+    refused_last e full = room_asked e ∙ asked_fault (room_left d) tt (traded d t) full
 
-    pub formed_last : {m : Movement} → sides_answer class ≡ Ok m → length d.movements < 128 → asked (trade_questions d t) (traded d t) ≡ Ok m
+    pub formed_last : {m : Movement} → sides_answer class ≡ Ok m → passes (room_left d) ≡ Ok tt → asked (trade_questions d t) (traded d t) ≡ Ok m
     formed_last {m} e room =
         let same : class_known t.class ≡ class = (asked_value (basic_questions d t) (class_known t.class) (class_known t.class) known).0 in
         let made : movement_of d.terms class t ≡ m = (asked_value (both_sides d t) (movement_of d.terms class t) (traded d t) e).0 in
         room_asked e
-        ∙ ap (λ b. asked (ask b BookFull ∷ []) (traded d t)) (lt-ltb (length d.movements) 128 room)
+        ∙ (asked_value (room_left d) tt (traded d t) room).1
         ∙ ap (λ x. Ok (movement_of d.terms x t)) same
         ∙ ap Ok made
 
@@ -61,3 +61,7 @@ trade_fits d t fit passed =
     (and_from (ltb t.currency 2) _ basic.1.1.1.1.0
     (and_from (from_one_to most_traded t.sum) _ basic.1.1.1.1.1.0
     (and_from (party_fits d.accounts m.seller) (party_fits d.accounts m.buyer) seller buyer)))))
+
+-- .. of a number above every one before
+pub trade_rises : (d : Daily) (t : Trade) → first_no (trade_questions d t) ≡ None → d.highest < t.number
+trade_rises d t passed = let all = all_hold (trade_questions d t) passed in grind (arith, nat_tests)

@@ -1,6 +1,9 @@
 pub mod Daily
 pub mod Found
+pub mod Rising
 pub mod State
+pub mod Parts
+pub mod Sound
 pub mod Questions
 pub mod Opening
 pub mod Paying

@@ -1,17 +1,18 @@
 -- Pay in, pay out and tell.
-use Rattle.std.specs.Prelude.{ℕ, ◌+◌, ◌&&◌, List, [], ◌∷◌, ◌++◌, Result, nat_le, nat_lt}
-use Rattle.register.specs.Holdings.{Holdings, limit, total, raised, lowered}
+use Rattle.std.specs.Prelude.{ℕ, ◌+◌, ◌&&◌, List, [], ◌∷◌, Result, nat_le, nat_lt}
+use Rattle.register.specs.Holdings.{Holdings, limit, total}
 use Rattle.register.specs.Answers.{Changed}
+use Rattle.register.specs.Entry.{holdings_after}
+use Rattle.register.specs.declared.entry.Entry.{Entry}
+use Rattle.register.specs.declared.entry.Entry.TheVariants.{Put, Take}
 use Rattle.fault.specs.declared.fault.Fault.{Fault}
 use Rattle.fault.specs.declared.fault.Fault.TheVariants.{UnknownSide, UnknownKind, UnknownAccount, AmountRange, SumRange, HoldsLess}
+use Rattle.movement.specs.declared.limits.TheConstants.{MAX_MOVED}
+use Rattle.movement.specs.Bounds.{from_one_to}
 use Rattle.book.specs.declared.place.Place.{Place}
 use Rattle.book.specs.State.{State, holdings, with_holdings}
 use Rattle.fault.specs.Questions.{Question, ask, passes}
 use Rattle.book.specs.Questions.{answer_to}
-
--- the largest amount of one pay-in or pay-out: 10^12
-abbrev pub most_paid : ℕ
-most_paid = 1000000000000
 
 -- the side is 0 or 1
 abbrev pub side_known : Place → Question
@@ -27,71 +28,53 @@ participant_known h p = ask (nat_le 1 p.account && nat_lt p.account h.accounts) 
 abbrev pub account_known : Holdings → Place → Question
 account_known h p = ask (nat_lt p.account h.accounts) UnknownAccount
 
+-- what an entry moves
+abbrev pub amount_of : Entry → ℕ
+amount_of (Put n) = n
+amount_of (Take n) = n
+
 abbrev pub amount_fits : ℕ → Question
-amount_fits n = ask (nat_le 1 n && nat_le n most_paid) AmountRange
+amount_fits n = ask (from_one_to MAX_MOVED n) AmountRange
 
-abbrev pub sum_stays : Holdings → Place → ℕ → Question
-sum_stays h p n = ask (nat_le (total h p.kind + n) limit) SumRange
+-- the kind's sum stays within the limit, and no more is taken than the account holds
+abbrev pub entry_fits : Holdings → Place → Entry → Question
+entry_fits h p (Put n) = ask (nat_le (total h p.kind + n) limit) SumRange
+entry_fits h p (Take n) = ask (nat_le n (h.amount p.kind p.account)) HoldsLess
 
-abbrev pub account_holds : Holdings → Place → ℕ → Question
-account_holds h p n = ask (nat_le n (h.amount p.kind p.account)) HoldsLess
-
--- what is asked of one register when n is paid in or out
-abbrev pub payment_questions : Holdings → Place → ℕ → List Question
-payment_questions h p n = kind_known h p ∷ (participant_known h p ∷ (amount_fits n ∷ []))
-
--- .. when n is paid in
-abbrev pub deposit_questions : Holdings → Place → ℕ → List Question
-deposit_questions h p n = payment_questions h p n ++ (sum_stays h p n ∷ [])
-
--- .. when n is paid out
-abbrev pub withdrawal_questions : Holdings → Place → ℕ → List Question
-withdrawal_questions h p n = payment_questions h p n ++ (account_holds h p n ∷ [])
+-- what is asked of one register when an entry is paid
+abbrev pub payment_questions : Holdings → Place → Entry → List Question
+payment_questions h p e =
+    kind_known h p ∷ (participant_known h p ∷ (amount_fits (amount_of e) ∷ (entry_fits h p e ∷ [])))
 
 -- .. when an amount is told
 abbrev pub inquiry_questions : Holdings → Place → List Question
 inquiry_questions h p = kind_known h p ∷ (account_known h p ∷ [])
 
-abbrev pub deposited : Holdings → Place → ℕ → Holdings
-deposited h p n = raised h p.kind p.account n
+-- what the register shows after the entry
+abbrev pub with_entry : Holdings → Place → Entry → Holdings
+with_entry h p e = holdings_after h p.kind p.account e
 
-abbrev pub withdrawn : Holdings → Place → ℕ → Holdings
-withdrawn h p n = lowered h p.kind p.account n
-
-abbrev pub pay_in_questions : State → Place → ℕ → List Question
-pay_in_questions s p n = side_known p ∷ deposit_questions (holdings s p.side) p n
-
-abbrev pub pay_out_questions : State → Place → ℕ → List Question
-pay_out_questions s p n = side_known p ∷ withdrawal_questions (holdings s p.side) p n
+abbrev pub pay_questions : State → Place → Entry → List Question
+pay_questions s p e = side_known p ∷ payment_questions (holdings s p.side) p e
 
 abbrev pub tell_questions : State → Place → List Question
 tell_questions s p = side_known p ∷ inquiry_questions (holdings s p.side) p
 
--- the state after n was paid in
-abbrev pub paid_in : State → Place → ℕ → State
-paid_in s p n = with_holdings s p.side (deposited (holdings s p.side) p n)
-
--- the state after n was paid out
-abbrev pub paid_out : State → Place → ℕ → State
-paid_out s p n = with_holdings s p.side (withdrawn (holdings s p.side) p n)
+-- the state after the entry
+abbrev pub with_payment : State → Place → Entry → State
+with_payment s p e = with_holdings s p.side (with_entry (holdings s p.side) p e)
 
 -- the amount of a place
 abbrev pub amount_at : State → Place → ℕ
 amount_at s p = (holdings s p.side).amount p.kind p.account
 
--- what the calls promise of one register
-abbrev pub Deposited : Holdings → Place → ℕ → Result Unit Fault → Holdings → Type 0
-Deposited h p n = Changed h (passes (deposit_questions h p n)) (deposited h p n)
+-- what a payment promises of one register
+abbrev pub Pays : Holdings → Place → Entry → Result Unit Fault → Holdings → Type 0
+Pays h p e = Changed h (passes (payment_questions h p e)) (with_entry h p e)
 
-abbrev pub Withdrawn : Holdings → Place → ℕ → Result Unit Fault → Holdings → Type 0
-Withdrawn h p n = Changed h (passes (withdrawal_questions h p n)) (withdrawn h p n)
-
--- what they promise of the whole book
-abbrev pub PaidIn : State → Place → ℕ → Result Unit Fault → State → Type 0
-PaidIn s p n = Changed s (answer_to s (pay_in_questions s p n) tt) (paid_in s p n)
-
-abbrev pub PaidOut : State → Place → ℕ → Result Unit Fault → State → Type 0
-PaidOut s p n = Changed s (answer_to s (pay_out_questions s p n) tt) (paid_out s p n)
+-- .. and of the whole book
+abbrev pub Paid : State → Place → Entry → Result Unit Fault → State → Type 0
+Paid s p e = Changed s (answer_to s (pay_questions s p e) tt) (with_payment s p e)
 
 abbrev pub told : State → Place → Result ℕ Fault
 told s p = answer_to s (tell_questions s p) (amount_at s p)

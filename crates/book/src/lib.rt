@@ -1,4 +1,4 @@
-// The book: two registers, a day, and the calls on them.
+//! The book: two registers, a day, and the calls on them.
 #![tactic(auto)]
 
 pub mod book;
@@ -8,7 +8,6 @@ mod paying;
 pub mod place;
 pub mod settlement;
 mod sums;
-mod trading;
 
 pub use book::Book;
 pub use place::Place;

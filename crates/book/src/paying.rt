@@ -1,70 +1,69 @@
-// Paying into and out of one register.
+//! Paying into and out of one register.
 ghost use Rattle.std.specs.Prelude.{◌≡◌};
 ghost use Rattle.fault.specs.Questions.{asked, passes};
-ghost use Rattle.book.specs.Paying.{Deposited, Withdrawn, payment_questions, inquiry_questions};
+ghost use Rattle.movement.specs.declared.limits.TheConstants.{MAX_MOVED};
+ghost use Rattle.movement.specs.Bounds.{from_one_to};
+ghost use Rattle.book.specs.Paying.{amount_of, inquiry_questions, payment_questions, Pays};
 
 use crate::place::Place;
 use crate::sums::sum;
-use fault::Fault;
-use register::{LIMIT, Register};
+use fault::{Fault, ask};
+use movement::MAX_MOVED;
+use register::{Entry, LIMIT, Register};
 
-// The largest amount of one pay-in or pay-out.
-const MOST_PAID: u64 = 1_000_000_000_000;
-
-// Asks what is asked of pay-ins and pay-outs alike.
-fn payable<R: Register>(register: &R, place: Place, amount: u64) -> Result<(), Fault>
-    ensures { result ≡ passes (payment_questions (R.Register.shows register.now) place amount) }
+/// Asks what is asked of an amount paid into an account or out of it.
+fn payable<R: Register>(register: &R, place: Place, entry: Entry) -> Result<(), Fault>
+    ensures { result ≡ passes (payment_questions (R.Register.shows register.now) place entry) }
 {
-    if place.kind as usize >= register.kinds() {
-        return Err(Fault::UnknownKind);
+    let kind = usize::from(place.kind);
+    let account = usize::from(place.account);
+    ask(kind < register.kinds(), Fault::UnknownKind)?;
+    ask(
+        account >= 1 && account < register.accounts(),
+        Fault::UnknownAccount,
+    )?;
+    let amount = amount(entry);
+    ask(is_movable(amount), Fault::AmountRange)?;
+    match entry {
+        Entry::Put(_) => ask(sum(register, kind) + amount <= LIMIT, Fault::SumRange),
+        Entry::Take(_) => ask(amount <= register.tell(kind, account), Fault::HoldsLess),
     }
-    if place.account == 0 || place.account as usize >= register.accounts() {
-        return Err(Fault::UnknownAccount);
-    }
-    if amount == 0 || amount > MOST_PAID {
-        return Err(Fault::AmountRange);
-    }
+}
+
+/// Pays an amount into an account or out of it.
+pub fn pay<R: Register>(register: &mut R, place: Place, entry: Entry) -> Result<(), Fault>
+    ensures { Pays (R.Register.shows register.old) place entry result
+        (R.Register.shows register.new) }
+{
+    payable(register, place, entry)?;
+    register.enter(usize::from(place.kind), usize::from(place.account), entry)?;
     Ok(())
 }
 
-// Pays in.
-pub fn deposit<R: Register>(register: &mut R, place: Place, amount: u64) -> Result<(), Fault>
-    ensures { Deposited (R.Register.shows register.old) place amount result (R.Register.shows register.new) }
+/// Whether an amount may be moved at once: it is from 1 to 10^12.
+pub fn is_movable(amount: u64) -> bool
+    ensures { result ≡ from_one_to MAX_MOVED amount }
 {
-    payable(register, place, amount)?;
-    let kind = place.kind as usize;
-    if sum(register, kind) + amount > LIMIT {
-        return Err(Fault::SumRange);
-    }
-    register.put(kind, place.account as usize, amount)?;
-    Ok(())
+    amount >= 1 && amount <= MAX_MOVED
 }
 
-// Pays out.
-pub fn withdraw<R: Register>(register: &mut R, place: Place, amount: u64) -> Result<(), Fault>
-    ensures { Withdrawn (R.Register.shows register.old) place amount result (R.Register.shows register.new) }
+/// What an entry moves.
+fn amount(entry: Entry) -> u64
+    ensures { result ≡ amount_of entry }
 {
-    payable(register, place, amount)?;
-    let kind = place.kind as usize;
-    let account = place.account as usize;
-    if register.tell(kind, account) < amount {
-        return Err(Fault::HoldsLess);
+    match entry {
+        Entry::Put(amount) | Entry::Take(amount) => amount,
     }
-    register.take(kind, account, amount)?;
-    Ok(())
 }
 
-// Tells the amount of an account, account 0 too.
+/// Tells the amount of an account, account 0 too.
 pub fn inquire<R: Register>(register: &R, place: Place) -> Result<u64, Fault>
-    ensures { result ≡ asked (inquiry_questions (R.Register.shows register.now) place) ((R.Register.shows register.now).amount place.kind place.account) }
+    ensures { result ≡ asked (inquiry_questions (R.Register.shows register.now) place)
+        ((R.Register.shows register.now).amount place.kind place.account) }
 {
-    let kind = place.kind as usize;
-    let account = place.account as usize;
-    if kind >= register.kinds() {
-        return Err(Fault::UnknownKind);
-    }
-    if account >= register.accounts() {
-        return Err(Fault::UnknownAccount);
-    }
+    let kind = usize::from(place.kind);
+    let account = usize::from(place.account);
+    ask(kind < register.kinds(), Fault::UnknownKind)?;
+    ask(account < register.accounts(), Fault::UnknownAccount)?;
     Ok(register.tell(kind, account))
 }

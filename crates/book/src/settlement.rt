@@ -1,69 +1,75 @@
-// The calls on a book, each by its contract: the answer, and the state after it.
+//! The calls on a book, each by its contract: the answer, and the state after it.
 ghost use Rattle.std.specs.Prelude.{◌≡◌};
+ghost use Rattle.register.specs.declared.entry.Entry.TheVariants.{Put, Take};
 ghost use Rattle.book.specs.State.{State};
 ghost use Rattle.book.specs.Books.{state_of};
-ghost use Rattle.book.specs.Paying.{PaidIn, PaidOut, told};
+ghost use Rattle.book.specs.Paying.{Paid, told};
 ghost use Rattle.book.specs.Trading.{CancelDone, Consented, TermsSet, Traded};
 
 use crate::book::Book;
-use crate::paying::{deposit, inquire, withdraw};
+use crate::paying::{inquire, pay};
 use crate::place::Place;
 use fault::Fault;
-use movement::{Setting, Trade};
-use register::Register;
+use movement::{Setting, Side, Trade};
+use register::{Entry, Register};
 
+/// What a book does.
 pub trait Settlement {
-    // The state that the rules speak of.
+    /// The state that the rules speak of.
     ghost state: { Self → State };
 
-    // Pays an amount into an account.
+    /// Pays an amount into an account.
     fn pay_in(&mut self, place: Place, amount: u64) -> Result<(), Fault>
-        ensures { PaidIn (state self.old) place amount result (state self.new) };
+        ensures { Paid (state self.old) place (Put amount) result (state self.new) };
 
-    // Pays an amount out of an account.
+    /// Pays an amount out of an account.
     fn pay_out(&mut self, place: Place, amount: u64) -> Result<(), Fault>
-        ensures { PaidOut (state self.old) place amount result (state self.new) };
+        ensures { Paid (state self.old) place (Take amount) result (state self.new) };
 
-    // Sets the terms of one category of one member.
+    /// Sets the terms of one category of one member.
     fn set_terms(&mut self, setting: Setting) -> Result<(), Fault>
         ensures { TermsSet (state self.old) setting result (state self.new) };
 
-    // Forms a movement from a trade and enters it.
+    /// Forms a movement from a trade and enters it.
     fn trade(&mut self, trade: Trade) -> Result<(), Fault>
         ensures { Traded (state self.old) trade result (state self.new) };
 
-    // Takes a participant's consent to a movement.
+    /// Takes a participant's consent to a movement.
     fn consent(&mut self, number: u32, participant: u8) -> Result<(), Fault>
         ensures { Consented (state self.old) number participant result (state self.new) };
 
-    // Takes a movement off the book.
+    /// Takes a movement off the book.
     fn cancel(&mut self, number: u32) -> Result<(), Fault>
         ensures { CancelDone (state self.old) number result (state self.new) };
 
-    // Tells the amount of an account.
+    /// Tells the amount of an account.
     fn tell(&self, place: Place) -> Result<u64, Fault>
         ensures { result ≡ told (state self.now) place };
+}
+
+impl<S: Register, C: Register> Book<S, C> {
+    /// Pays an amount into an account or out of it.
+    fn pay(&mut self, place: Place, entry: Entry) -> Result<(), Fault>
+        ensures { Paid (state_of S.Register.shows C.Register.shows self.old) place entry result
+            (state_of S.Register.shows C.Register.shows self.new) }
+    {
+        self.passed()?;
+        match Side::try_from(place.side)? {
+            Side::Securities => pay(&mut self.securities, place, entry),
+            Side::Cash => pay(&mut self.cash, place, entry),
+        }
+    }
 }
 
 impl<S: Register, C: Register> Settlement for Book<S, C> {
     ghost state = { state_of S.Register.shows C.Register.shows };
 
     fn pay_in(&mut self, place: Place, amount: u64) -> Result<(), Fault> {
-        self.passed()?;
-        match place.side {
-            0 => deposit(&mut self.securities, place, amount),
-            1 => deposit(&mut self.cash, place, amount),
-            _ => Err(Fault::UnknownSide),
-        }
+        self.pay(place, Entry::Put(amount))
     }
 
     fn pay_out(&mut self, place: Place, amount: u64) -> Result<(), Fault> {
-        self.passed()?;
-        match place.side {
-            0 => withdraw(&mut self.securities, place, amount),
-            1 => withdraw(&mut self.cash, place, amount),
-            _ => Err(Fault::UnknownSide),
-        }
+        self.pay(place, Entry::Take(amount))
     }
 
     fn set_terms(&mut self, setting: Setting) -> Result<(), Fault> {
@@ -88,10 +94,9 @@ impl<S: Register, C: Register> Settlement for Book<S, C> {
 
     fn tell(&self, place: Place) -> Result<u64, Fault> {
         self.passed()?;
-        match place.side {
-            0 => inquire(&self.securities, place),
-            1 => inquire(&self.cash, place),
-            _ => Err(Fault::UnknownSide),
+        match Side::try_from(place.side)? {
+            Side::Securities => inquire(&self.securities, place),
+            Side::Cash => inquire(&self.cash, place),
         }
     }
 }

@@ -18,7 +18,7 @@ pub fn table(heap: Global, kinds: u8, accounts: u8, amount: i64) -> Result<Table
 pub fn opened_on(heap: Global, first_day: u32) -> Result<Depository, Fail> {
     let securities = table(heap, 4, 32, 0)?;
     let cash = table(heap, 2, 32, 0)?;
-    let mut book = Book::open(heap, securities, cash, first_day)?;
+    let mut book = Book::open(securities, cash, first_day);
     expect(&mut book, terms(1, b'-', 1, 2), 0)?;
     expect(&mut book, terms(2, b'-', 3, 4), 0)?;
     Ok(book)

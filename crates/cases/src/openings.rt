@@ -14,7 +14,7 @@ fn opened(heap: Global, opening: Opening) -> Result<Depository, AllocError> {
     let Opening(accounts, kinds, amount, day) = opening;
     let securities = table(heap, kinds, accounts, amount)?;
     let cash = table(heap, 2, accounts, amount)?;
-    Book::open(heap, securities, cash, day)
+    Ok(Book::open(securities, cash, day))
 }
 
 // 32 times as much is 10^15.

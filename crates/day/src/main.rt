@@ -25,7 +25,7 @@ fn opened(heap: Global) -> Result<Depository, AllocError> {
         debits: 0,
     };
     let euro = Turnover::new(vec![in heap; nothing; ACCOUNTS]?, 1);
-    Book::open(heap, securities, Joined::new(litas, euro), 0)
+    Ok(Book::open(securities, Joined::new(litas, euro), 0))
 }
 
 fn shares(account: u8) -> Place {

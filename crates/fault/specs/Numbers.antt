@@ -1,9 +1,9 @@
 -- The number of each fault.
 use Rattle.std.specs.Prelude.{ℕ}
-use Rattle.register.specs.Answers.{refusal_number}
 use Rattle.fault.specs.declared.fault.Fault.{Fault}
-use Rattle.fault.specs.declared.fault.Fault.TheVariants.{AccountCount, KindCount, OpeningSum, FirstDay, UnknownSide, UnknownKind, UnknownAccount, AmountRange, SumRange, HoldsLess, TradeNumber, UnknownClass, UnknownSecurity, QuantityRange, UnknownCurrency, TradeSum, SettlementDay, NoTerms, UnknownCategory, ClearingField, ClearingLetter, ClearingParticipant, BookFull, UnknownMember, TermsCategory, TermsCustodian, NotOnBook, NoDuty, AlreadyConsented, CancelTooLate, NoFrame, UnknownCode, FrameLength, Refused}
+use Rattle.fault.specs.declared.fault.Fault.TheVariants.{AccountCount, KindCount, OpeningSum, FirstDay, UnknownSide, UnknownKind, UnknownAccount, AmountRange, SumRange, HoldsLess, TradeNumber, UnknownClass, UnknownSecurity, QuantityRange, UnknownCurrency, TradeSum, SettlementDay, NoTerms, UnknownCategory, ClearingField, ClearingLetter, ClearingParticipant, BookFull, UnknownMember, TermsCategory, TermsCustodian, NotOnBook, NoDuty, AlreadyConsented, CancelTooLate, NoFrame, UnknownCode, FrameLength, RegisterUnknownKind, RegisterUnknownAccount, RegisterHoldsLess, RegisterOverLimit}
 
+-- the number by which a refused call is answered; a register's are its own
 abbrev pub fault_number : Fault → ℕ
 fault_number AccountCount = 1
 fault_number KindCount = 2
@@ -38,4 +38,7 @@ fault_number CancelTooLate = 53
 fault_number NoFrame = 80
 fault_number UnknownCode = 81
 fault_number FrameLength = 82
-fault_number (Refused refusal) = refusal_number refusal
+fault_number RegisterUnknownKind = 91
+fault_number RegisterUnknownAccount = 92
+fault_number RegisterHoldsLess = 93
+fault_number RegisterOverLimit = 94

@@ -1,5 +1,5 @@
 -- A call asks questions in order; the first no is its answer, and then it changes nothing.
-use Rattle.std.specs.Prelude.{Bool, cond, List, [], ◌∷◌, Some, None, Ok, Err, Option, Result}
+use Rattle.std.specs.Prelude.{Bool, if◌then◌else◌, List, [], ◌∷◌, Some, None, Ok, Err, Option, Result}
 use Rattle.fault.specs.declared.fault.Fault.{Fault}
 
 -- what is asked, and the fault of a no
@@ -7,13 +7,14 @@ pub record Question : Type 0 where
   pub holds : Bool
   pub fault : Fault
 
+-- the question whether b, f its fault
 abbrev pub ask : Bool → Fault → Question
 ask b f = record { holds = b; fault = f }
 
 -- the fault of the first no
 abbrev pub first_no : List Question → Option Fault
 first_no [] = None
-first_no (q ∷ qs) = cond q.holds (first_no qs) (Some q.fault)
+first_no (q ∷ qs) = if q.holds then first_no qs else Some q.fault
 
 -- refused by the fault, if there is one
 abbrev pub unless : {A : Type 0} → Option Fault → Result A Fault → Result A Fault

@@ -1,7 +1,8 @@
-// Faults: every reason for which a call is refused, with its number.
+//! Faults: every reason for which a call is refused, with its number, and the questions that a call asks.
 #![tactic(auto)]
 
 pub mod fault;
-mod reason;
+pub mod question;
 
 pub use fault::Fault;
+pub use question::ask;

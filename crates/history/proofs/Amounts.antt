@@ -7,8 +7,9 @@ use Rattle.fault.specs.Questions.{first_no}
 use Rattle.book.specs.declared.place.Place.{Place}
 use Rattle.book.specs.State.{State, holdings}
 use Rattle.book.specs.Opening.{Opening, opened}
-use Rattle.book.specs.Paying.{paid_in, paid_out, amount_at}
-use Rattle.book.proofs.Asking.{pay_in_payable, pay_out_payable}
+use Rattle.register.specs.declared.entry.Entry.TheVariants.{Put, Take}
+use Rattle.book.specs.Paying.{with_payment, amount_at}
+use Rattle.book.proofs.Payments.{payable, take_covered}
 use Rattle.history.specs.declared.call.Call.{Call}
 use Rattle.history.specs.declared.call.Call.TheVariants.{PayIn, PayOut, Terms, Trade, Consent, Cancel, Tell}
 use Rattle.history.specs.declared.call.Answer.{Answer}
@@ -63,15 +64,15 @@ module _ (o : Opening) (h : List Event) (s : State) (lawful : LawfulAmounts o h 
 
   pub accepted_amounts : (c : Call) (v : Answer) → first_no (questions s c) ≡ None → LawfulAmounts o (event c (Ok v) ∷ h) (effect s c)
   accepted_amounts (PayIn p n) v asked =
-      let fits = pay_in_payable s p n asked in
-      booked_amounts (PayIn p n) v p (pos n) (paid_in s p n) fits.participant
+      let fits = payable s p (Put n) asked in
+      booked_amounts (PayIn p n) v p (pos n) (with_payment s p (Put n)) fits.participant
       (booked_at s p.side p.kind p.account (amount_at s p + n) (pos n) fits.side fits.account (omega (arith, ints)))
       refl
       (λ side k. refl)
   accepted_amounts (PayOut p n) v asked =
-      let fits = (pay_out_payable s p n asked).0 in
-      let holds = (pay_out_payable s p n asked).1 in
-      booked_amounts (PayOut p n) v p (neg_ℤ (pos n)) (paid_out s p n) fits.participant
+      let fits = payable s p (Take n) asked in
+      let holds = take_covered s p n asked in
+      booked_amounts (PayOut p n) v p (neg_ℤ (pos n)) (with_payment s p (Take n)) fits.participant
       (booked_at s p.side p.kind p.account (amount_at s p - n) (neg_ℤ (pos n)) fits.side fits.account (omega (arith, ints)))
       refl
       (λ side k. refl)

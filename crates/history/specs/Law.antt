@@ -1,5 +1,5 @@
 -- The law of every history, in the words of accounts, calls and answers.
-use Rattle.std.specs.Prelude.{◌≡◌, ℕ, ◌+◌, ◌<◌, ◌≤◌, Bool, true, false, cond, ◌&&◌, ◌||◌, List, [], ◌∷◌, length, ℤ, pos, ◌+ℤ◌, neg_ℤ, ◌≤ℤ◌, is_ok, Some, None, Ok, Err, Result, ◌==◌, nat_lt}
+use Rattle.std.specs.Prelude.{◌≡◌, ℕ, ◌+◌, ◌<◌, ◌≤◌, Bool, true, false, if◌then◌else◌, ◌&&◌, ◌||◌, List, [], ◌∷◌, length, ℤ, pos, ◌+ℤ◌, neg_ℤ, ◌≤ℤ◌, is_ok, Some, None, Ok, Err, Result, ◌==◌, nat_lt}
 use Rattle.std.specs.List.{AllByRecursion}
 use Rattle.register.specs.Holdings.{total}
 use Rattle.fault.specs.declared.fault.Fault.{Fault}
@@ -25,8 +25,8 @@ AnsweredByCall e = (f : Fault) → e.answer ≡ Err f → of_a_call f ≡ true
 
 -- what an accepted call pays into a kind, less what it pays out
 abbrev pub paid : Call → ℕ → ℕ → ℤ
-paid (PayIn p n) side k = cond (side == p.side && k == p.kind) (pos n) (pos 0)
-paid (PayOut p n) side k = cond (side == p.side && k == p.kind) (neg_ℤ (pos n)) (pos 0)
+paid (PayIn p n) side k = if side == p.side && k == p.kind then pos n else pos 0
+paid (PayOut p n) side k = if side == p.side && k == p.kind then neg_ℤ (pos n) else pos 0
 paid (Terms t) side k = pos 0
 paid (Trade t) side k = pos 0
 paid (Consent n p) side k = pos 0
@@ -36,14 +36,14 @@ paid (Tell p) side k = pos 0
 -- .. and what a whole history does
 abbrev pub paid_by : List Event → ℕ → ℕ → ℤ
 paid_by [] side k = pos 0
-paid_by (e ∷ h) side k = cond (is_ok e.answer) (paid e.call side k) (pos 0) +ℤ paid_by h side k
+paid_by (e ∷ h) side k = (if is_ok e.answer then paid e.call side k else pos 0) +ℤ paid_by h side k
 
 -- how often a number was accepted as a trade's
 abbrev pub traded_by : Call → ℕ → ℕ
 traded_by (PayIn p m) n = 0
 traded_by (PayOut p m) n = 0
 traded_by (Terms t) n = 0
-traded_by (Trade t) n = cond (t.number == n) 1 0
+traded_by (Trade t) n = if t.number == n then 1 else 0
 traded_by (Consent m p) n = 0
 traded_by (Cancel m) n = 0
 traded_by (Tell p) n = 0
@@ -55,13 +55,13 @@ cancelled_by (PayOut p m) n = 0
 cancelled_by (Terms t) n = 0
 cancelled_by (Trade t) n = 0
 cancelled_by (Consent m p) n = 0
-cancelled_by (Cancel m) n = cond (m == n) 1 0
+cancelled_by (Cancel m) n = if m == n then 1 else 0
 cancelled_by (Tell p) n = 0
 
 -- the sum over the accepted calls of a history
 abbrev pub over : (Call → ℕ → ℕ) → List Event → ℕ → ℕ
 over f [] n = 0
-over f (e ∷ h) n = cond (is_ok e.answer) (f e.call n) 0 + over f h n
+over f (e ∷ h) n = (if is_ok e.answer then f e.call n else 0) + over f h n
 
 -- a number is on the book while a cancel now would not get 50
 abbrev pub got_50 : Result Answer Fault → Bool
@@ -69,7 +69,7 @@ got_50 (Ok a) = false
 got_50 (Err f) = fault_number f == 50
 
 abbrev pub on_the_book : State → ℕ → ℕ
-on_the_book s n = cond (got_50 (answer s (Cancel n))) 0 1
+on_the_book s n = if got_50 (answer s (Cancel n)) then 0 else 1
 
 -- the amounts of the state s to which the history h leads from the opening o
 pub record LawfulAmounts (o : Opening) (h : List Event) (s : State) : Type 0 where

@@ -1,20 +1,22 @@
-// A call on a book, and what an accepted call answers.
+//! A call on a book, and what an accepted call answers.
 use book::Place;
 use movement::{Setting, Trade};
 
+/// A call, by its arguments.
 #[derive(Clone, Copy, PartialEq, Eq, Debug)]
 pub enum Call {
     PayIn(Place, u64),
     PayOut(Place, u64),
     Terms(Setting),
     Trade(Trade),
-    // a movement's number and a participant
+    /// A movement's number and a participant.
     Consent(u32, u8),
-    // a movement's number
+    /// A movement's number.
     Cancel(u32),
     Tell(Place),
 }
 
+/// What an accepted call answers.
 #[derive(Clone, Copy, PartialEq, Eq, Debug)]
 pub enum Answer {
     Done,

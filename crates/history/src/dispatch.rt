@@ -1,4 +1,4 @@
-// One call, by name.
+//! One call, by name.
 ghost use Rattle.history.specs.Step.{Stepped};
 ghost use Rattle.history.specs.Law.{Performed};
 
@@ -6,7 +6,7 @@ use crate::call::{Answer, Call};
 use book::Settlement;
 use fault::Fault;
 
-// Hands a call to the book's method for it.
+/// Hands a call to the book's method for it.
 fn dispatch<B: Settlement>(book: &mut B, call: Call) -> Result<Answer, Fault>
     ensures { Stepped (B.Settlement.state book.old) call result (B.Settlement.state book.new) }
 {
@@ -39,7 +39,7 @@ fn dispatch<B: Settlement>(book: &mut B, call: Call) -> Result<Answer, Fault>
     }
 }
 
-// Performs a call on a book: answered by the rules, and lawful after every history.
+/// Performs a call on a book: answered by the rules, and lawful after every history.
 pub fn perform<B: Settlement>(book: &mut B, call: Call) -> Result<Answer, Fault>
     ensures { Performed (B.Settlement.state book.old) call result (B.Settlement.state book.new) }
 {

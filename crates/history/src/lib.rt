@@ -1,4 +1,4 @@
-// Calls by name, and the law that every run of calls keeps.
+//! Calls by name, and the law that every run of calls keeps.
 #![tactic(auto)]
 
 pub mod call;

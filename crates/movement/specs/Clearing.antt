@@ -1,8 +1,10 @@
 -- The clearing field: four characters.
-use Rattle.std.specs.Prelude.{ℕ, ◌+◌, ◌-◌, ◌*◌, Bool, cond, ◌&&◌, ◌||◌, List, [], ◌∷◌, Some, None, Option, ◌==◌, nat_le, nat_lt, slice_index}
+use Rattle.std.specs.Prelude.{ℕ, ◌+◌, ◌-◌, ◌*◌, Bool, if◌then◌else◌, ◌&&◌, ◌||◌, List, [], ◌∷◌, Some, None, Option, ◌==◌, nat_le, nat_lt, slice_index}
+use Rattle.std.specs.Char.{is_ascii_digit}
 use Rattle.fault.specs.declared.fault.Fault.TheVariants.{ClearingField, ClearingLetter, ClearingParticipant}
 use Rattle.fault.specs.Questions.{Question, ask}
 
+-- the character at a place of the field
 abbrev pub character : List ℕ → ℕ → ℕ
 character f i = slice_index f i
 
@@ -10,14 +12,11 @@ character f i = slice_index f i
 abbrev pub blank : List ℕ → Bool
 blank f = character f 0 == 32 && (character f 1 == 32 && (character f 2 == 32 && character f 3 == 32))
 
-abbrev pub is_digit : ℕ → Bool
-is_digit c = nat_le 48 c && nat_le c 57
-
 -- a letter V, R or T and three digits
 abbrev pub shaped : List ℕ → Bool
 shaped f =
     (character f 0 == 86 || (character f 0 == 82 || character f 0 == 84))
-    && (is_digit (character f 1) && (is_digit (character f 2) && is_digit (character f 3)))
+    && (is_ascii_digit (character f 1) && (is_ascii_digit (character f 2) && is_ascii_digit (character f 3)))
 
 -- the number that the digits write
 abbrev pub digits : List ℕ → ℕ
@@ -33,4 +32,4 @@ clearing_questions accounts f =
 
 -- the participant of one-off terms, if there are any
 abbrev pub one_off_of : List ℕ → Option ℕ
-one_off_of f = cond (blank f) None (Some (digits f))
+one_off_of f = if blank f then None else Some (digits f)

@@ -14,30 +14,18 @@ has_duty m p = giver m == p || payer m == p
 abbrev pub silent : Movement → ℕ → Bool
 silent m p = (giver m == p && not m.seller.consented) || (payer m == p && not m.buyer.consented)
 
+-- the half is the afternoon
 abbrev pub is_afternoon : Half → Bool
 is_afternoon Morning = false
 is_afternoon Afternoon = true
 
 -- a party whose custodian consents, if it does
 abbrev pub agreeing : Party → Bool → Party
-agreeing x b = record {
-  securities = x.securities;
-  cash = x.cash;
-  standard = x.standard;
-  one_off = x.one_off;
-  consented = x.consented || b;
-}
+agreeing x b = record x { consented = x.consented || b }
 
 -- the participant consents to every duty that it has; ready from then on, it is late if that is in the afternoon
 abbrev pub consented : Movement → ℕ → Half → Movement
-consented m p half = record {
-  number = m.number;
-  class = m.class;
-  security = m.security;
-  quantity = m.quantity;
-  currency = m.currency;
-  sum = m.sum;
-  day = m.day;
+consented m p half = record m {
   seller = agreeing m.seller (giver m == p);
   buyer = agreeing m.buyer (payer m == p);
   late = m.late || (is_afternoon half && ((m.seller.consented || giver m == p) && (m.buyer.consented || payer m == p)));

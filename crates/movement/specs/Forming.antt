@@ -1,8 +1,8 @@
 -- Forming a movement from a trade.
 use Rattle.std.specs.Prelude.{ℕ, true, false, List, ◌∷◌, is_some, Some, None, Option}
+use Rattle.std.specs.Option.{option_and_then, unwrap_or}
 use Rattle.fault.specs.declared.fault.Fault.TheVariants.{UnknownCategory, NoTerms}
 use Rattle.fault.specs.Questions.{Question, ask}
-use Rattle.movement.specs.declared.category.Category.{Category}
 use Rattle.movement.specs.declared.class.Class.{Class}
 use Rattle.movement.specs.declared.movement.Movement.{Movement}
 use Rattle.movement.specs.declared.party.Party.{Party}
@@ -12,15 +12,11 @@ use Rattle.movement.specs.Letters.{category_of}
 use Rattle.movement.specs.Agreed.{Agreed, lookup}
 use Rattle.movement.specs.Clearing.{clearing_questions, one_off_of}
 
--- the lookup for a category, if it is known
-abbrev pub lookup_known : Agreed → ℕ → Option Category → Option (ℕ × ℕ)
-lookup_known t m (Some c) = lookup t m c
-lookup_known t m None = None
-
--- the custodians that the terms give a side
+-- the custodians that the terms give a side, if its category is known
 abbrev pub standard_pair : Agreed → TradeSide → Option (ℕ × ℕ)
-standard_pair t side = lookup_known t side.member (category_of side.category)
+standard_pair t side = option_and_then (lookup t side.member) (category_of side.category)
 
+-- the category is known, the member has terms for it, then what is asked of the clearing field
 abbrev pub side_questions : Agreed → ℕ → TradeSide → List Question
 side_questions t accounts side =
     ask (is_some (category_of side.category)) UnknownCategory
@@ -32,13 +28,9 @@ abbrev pub formed : ℕ × ℕ → Option ℕ → Party
 formed pair None = record { securities = pair.0; cash = pair.1; standard = pair; one_off = false; consented = false }
 formed pair (Some p) = record { securities = p; cash = p; standard = pair; one_off = true; consented = false }
 
--- the same, if the terms gave a pair; the questions see to it
-abbrev pub formed_known : Option (ℕ × ℕ) → Option ℕ → Party
-formed_known (Some pair) p = formed pair p
-formed_known None p = formed (0, 0) p
-
+-- the party of a side; the questions see to it that the terms give a pair
 abbrev pub party_of : Agreed → TradeSide → Party
-party_of t side = formed_known (standard_pair t side) (one_off_of side.clearing)
+party_of t side = formed (unwrap_or (standard_pair t side) (0, 0)) (one_off_of side.clearing)
 
 -- the movement of a trade, nobody having consented yet
 abbrev pub movement_of : Agreed → Class → Trade → Movement

@@ -1,6 +1,7 @@
 pub mod Letters
 pub mod Movements
 pub mod Agreed
+pub mod MemberRows
 pub mod Terms
 pub mod Settings
 pub mod Clearing

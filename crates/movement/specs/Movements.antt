@@ -6,6 +6,7 @@ use Rattle.movement.specs.declared.movement.Movement.{Movement}
 abbrev pub giver : Movement → ℕ
 giver m = m.seller.securities
 
+-- .. whom they reach
 abbrev pub receiver : Movement → ℕ
 receiver m = m.buyer.securities
 
@@ -13,6 +14,7 @@ receiver m = m.buyer.securities
 abbrev pub payer : Movement → ℕ
 payer m = m.buyer.cash
 
+-- .. whom it reaches
 abbrev pub payee : Movement → ℕ
 payee m = m.seller.cash
 

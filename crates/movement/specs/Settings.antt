@@ -1,8 +1,8 @@
 -- Setting terms.
-use Rattle.std.specs.Prelude.{ℕ, Bool, ◌&&◌, List, [], ◌∷◌, is_some, Some, None, Option, nat_le, nat_lt}
+use Rattle.std.specs.Prelude.{ℕ, Bool, ◌&&◌, List, [], ◌∷◌, is_some, nat_le, nat_lt}
+use Rattle.std.specs.Option.{option_map_or}
 use Rattle.fault.specs.declared.fault.Fault.TheVariants.{UnknownMember, TermsCategory, TermsCustodian}
 use Rattle.fault.specs.Questions.{Question, ask}
-use Rattle.movement.specs.declared.category.Category.{Category}
 use Rattle.movement.specs.declared.terms.Setting.{Setting}
 use Rattle.movement.specs.Letters.{category_of}
 use Rattle.movement.specs.Agreed.{Agreed, member_known, with_terms}
@@ -11,6 +11,7 @@ use Rattle.movement.specs.Agreed.{Agreed, member_known, with_terms}
 abbrev pub participant_known : ℕ → ℕ → Bool
 participant_known accounts a = nat_le 1 a && nat_lt a accounts
 
+-- the member is one, the category is known, both custodians are participants
 abbrev pub terms_questions : ℕ → Setting → List Question
 terms_questions accounts t =
     ask (member_known t.member) UnknownMember
@@ -18,10 +19,6 @@ terms_questions accounts t =
     ∷ (ask (participant_known accounts t.securities && participant_known accounts t.cash) TermsCustodian
     ∷ []))
 
--- the terms with a category set, if it is known
-abbrev pub with_category : Agreed → Setting → Option Category → Agreed
-with_category a t (Some c) = with_terms a t.member c (t.securities, t.cash)
-with_category a t None = a
-
+-- the terms with the category set, if it is known
 abbrev pub terms_after : Agreed → Setting → Agreed
-terms_after a t = with_category a t (category_of t.category)
+terms_after a t = option_map_or (λ c. with_terms a t.member c (t.securities, t.cash)) (category_of t.category) a

@@ -1,5 +1,6 @@
 -- The two sides of a trade, by number.
-use Rattle.std.specs.Prelude.{ℕ, cond, Some, None, Option, ◌==◌}
+use Rattle.std.specs.Prelude.{ℕ, [], ◌∷◌, Option, ◌==◌}
+use Rattle.std.specs.List.{find}
 use Rattle.movement.specs.declared.side.Side.{Side}
 use Rattle.movement.specs.declared.side.Side.TheVariants.{Securities, Cash}
 
@@ -8,6 +9,6 @@ abbrev pub side_number : Side → ℕ
 side_number Securities = 0
 side_number Cash = 1
 
--- 0 securities, 1 cash
+-- the side of a number
 abbrev pub side_of : ℕ → Option Side
-side_of n = cond (n == 0) (Some Securities) (cond (n == 1) (Some Cash) None)
+side_of n = find (λ s. side_number s == n) (Securities ∷ Cash ∷ [])

@@ -1,19 +1,13 @@
--- What the table of terms says.
-use Rattle.std.specs.Prelude.{ℕ, ◌-◌, cond, [], None, Option, slice_index_or}
+-- What the terms of a book say.
+use Rattle.std.specs.Prelude.{ℕ}
 use Rattle.movement.specs.declared.terms.Terms.{Terms}
-use Rattle.movement.specs.declared.terms.MemberRow.{MemberRow}
-use Rattle.movement.specs.declared.category.Category.{Category}
-use Rattle.movement.specs.Letters.{row}
-use Rattle.movement.specs.Agreed.{Agreed, member_known}
+use Rattle.movement.specs.Agreed.{Agreed}
+use Rattle.movement.specs.MemberRows.{agreed_in}
 
--- a row in which nothing is set
-abbrev pub empty_row : MemberRow
-empty_row = record { pairs = [] }
-
--- the pair of a category in a member's row
-abbrev pub pair_in : MemberRow → Category → Option (ℕ × ℕ)
-pair_in r c = slice_index_or r.pairs (row c) None
-
--- member m has the row m - 1
+-- the terms that members have set
 abbrev pub agreed : Terms → Agreed
-agreed t m c = cond (member_known m) (pair_in (slice_index_or t.rows (m - 1) empty_row) c) None
+agreed t = agreed_in t.rows
+
+-- how many accounts the book has
+abbrev pub accounts_of : Terms → ℕ
+accounts_of t = t.accounts

@@ -1,24 +1,32 @@
-// The two classes of trades.
+//! The two classes of trades.
 ghost use Rattle.std.specs.Prelude.{◌≡◌};
+ghost use Rattle.fault.specs.Questions.{or_fault};
+ghost use Rattle.fault.specs.declared.fault.Fault.TheVariants.{UnknownClass};
 ghost use Rattle.movement.specs.Letters.{class_of};
 
-#[derive(Clone, Copy, PartialEq, Eq, Debug)]
+use fault::Fault;
+
+/// How a trade was made.
+#[derive(Clone, Copy, PartialEq, Eq, Debug, Default)]
 pub enum Class {
-    // on the central market
+    /// On the central market.
+    #[default]
     Central,
-    // agreed directly
+    /// Agreed directly.
     Direct,
 }
 
-impl Class {
-    // The class of a letter.
-    pub fn of(letter: u8) -> Option<Class>
-        ensures { result ≡ class_of letter }
-    {
-        match letter {
-            b'C' => Some(Class::Central),
-            b'D' => Some(Class::Direct),
-            _ => None,
+impl TryFrom<u8> for Class {
+    type Error = Fault;
+
+    ghost try_from_gives = { λ letter r. r ≡ or_fault UnknownClass (class_of letter) };
+
+    /// The class of a letter, as a trade has it.
+    fn try_from(letter: u8) -> Result<Class, Fault> {
+        match letter as char {
+            'C' => Ok(Class::Central),
+            'D' => Ok(Class::Direct),
+            _ => Err(Fault::UnknownClass),
         }
     }
 }

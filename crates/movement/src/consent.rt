@@ -1,4 +1,4 @@
-// Consent of the participants that have to give.
+//! Consent of the participants that have to give.
 ghost use Rattle.std.specs.Prelude.{◌≡◌};
 ghost use Rattle.movement.specs.Consents.{consented as consented_by, has_duty, silent};
 
@@ -6,14 +6,14 @@ use crate::half::Half;
 use crate::movement::Movement;
 
 impl Movement {
-    // Whether a participant is its giver or payer.
+    /// Whether a participant is its giver or payer.
     pub fn has_duty(&self, participant: u8) -> bool
         ensures { result ≡ has_duty self.now participant }
     {
         self.giver() == participant || self.payer() == participant
     }
 
-    // Whether a participant has a duty for which it has not consented.
+    /// Whether a participant has a duty for which it has not consented.
     pub fn is_silent(&self, participant: u8) -> bool
         ensures { result ≡ silent self.now participant }
     {
@@ -21,19 +21,13 @@ impl Movement {
             || self.payer() == participant && !self.buyer.consented
     }
 
-    // The movement with a participant's consent to every duty it has, given in this half of the day.
+    /// The movement with a participant's consent to every duty it has, given in this half of the day.
     pub fn consented(mut self, participant: u8, half: Half) -> Movement
         ensures { result ≡ consented_by self participant half }
     {
-        let gives = self.giver() == participant;
-        let pays = self.payer() == participant;
-        self.seller.consented = self.seller.consented || gives;
-        self.buyer.consented = self.buyer.consented || pays;
-        let late = match half {
-            Half::Morning => false,
-            Half::Afternoon => self.is_ready(),
-        };
-        self.late = self.late || late;
+        self.seller.consented |= self.giver() == participant;
+        self.buyer.consented |= self.payer() == participant;
+        self.late |= half == Half::Afternoon && self.is_ready();
         self
     }
 }

@@ -1,8 +1,8 @@
-// A movement is formed from a trade.
+//! A movement is formed from a trade.
 ghost use Rattle.std.specs.Prelude.{◌≡◌, ◌++◌};
 ghost use Rattle.fault.specs.Questions.{asked};
 ghost use Rattle.movement.specs.Forming.{formed, movement_of, party_of, side_questions};
-ghost use Rattle.movement.specs.Terms.{agreed};
+ghost use Rattle.movement.specs.Terms.{accounts_of, agreed};
 
 use crate::category::Category;
 use crate::class::Class;
@@ -17,45 +17,37 @@ use fault::Fault;
 fn party_with(standard: (u8, u8), one_off: Option<u8>) -> Party
     ensures { result ≡ formed standard one_off }
 {
-    let (securities, cash) = standard;
-    match one_off {
-        None => Party {
-            securities,
-            cash,
-            standard,
-            one_off: false,
-            consented: false,
-        },
-        Some(participant) => Party {
-            securities: participant,
-            cash: participant,
-            standard,
-            one_off: true,
-            consented: false,
-        },
+    let (securities, cash) = one_off.map_or(standard, |participant| (participant, participant));
+    Party {
+        securities,
+        cash,
+        standard,
+        one_off: one_off.is_some(),
+        consented: false,
     }
 }
 
 // The party of one side of a trade.
-fn party(terms: &Terms, accounts: u8, side: TradeSide) -> Result<Party, Fault>
-    ensures { result ≡ asked (side_questions (agreed terms.now) accounts side) (party_of (agreed terms.now) side) }
+fn party(terms: &Terms, side: TradeSide) -> Result<Party, Fault>
+    ensures { result ≡ asked
+        (side_questions (agreed terms.now) (accounts_of terms.now) side)
+        (party_of (agreed terms.now) side) }
 {
-    let Some(category) = Category::of(side.category) else {
-        return Err(Fault::UnknownCategory);
-    };
-    let Some(standard) = terms.look_up(side.member, category) else {
-        return Err(Fault::NoTerms);
-    };
-    let one_off = one_off_participant(side.clearing, accounts)?;
+    let category = Category::try_from(side.category)?;
+    let standard = terms.look_up(side.member, category).ok_or(Fault::NoTerms)?;
+    let one_off = one_off_participant(side.clearing, terms.accounts())?;
     Ok(party_with(standard, one_off))
 }
 
-// The movement of a trade of a known class, by the terms as they stand.
-pub fn form(terms: &Terms, accounts: u8, class: Class, trade: Trade) -> Result<Movement, Fault>
-    ensures { result ≡ asked (side_questions (agreed terms.now) accounts trade.seller ++ side_questions (agreed terms.now) accounts trade.buyer) (movement_of (agreed terms.now) class trade) }
+/// The movement of a trade of a known class, by the terms as they stand.
+pub fn form(terms: &Terms, class: Class, trade: Trade) -> Result<Movement, Fault>
+    ensures { result ≡ asked
+        (side_questions (agreed terms.now) (accounts_of terms.now) trade.seller
+        ++ side_questions (agreed terms.now) (accounts_of terms.now) trade.buyer)
+        (movement_of (agreed terms.now) class trade) }
 {
-    let seller = party(terms, accounts, trade.seller)?;
-    let buyer = party(terms, accounts, trade.buyer)?;
+    let seller = party(terms, trade.seller)?;
+    let buyer = party(terms, trade.buyer)?;
     Ok(Movement {
         number: trade.number,
         class,

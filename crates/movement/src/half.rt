@@ -1,4 +1,6 @@
-// The two halves of a day.
+//! The two halves of a day.
+
+/// A half of a day; the package settles between them.
 #[derive(Clone, Copy, PartialEq, Eq, Debug)]
 pub enum Half {
     Morning,

@@ -1,7 +1,6 @@
-// Movements: what an exchange trade becomes on the book until it settles, ends or is cancelled.
+//! Movements: what an exchange trade becomes on the book until it settles, ends or is cancelled.
 #![tactic(auto)]
 
-mod agreements;
 pub mod category;
 pub mod class;
 mod clearing;
@@ -9,6 +8,7 @@ mod consent;
 mod duties;
 mod forming;
 pub mod half;
+pub mod limits;
 pub mod movement;
 pub mod party;
 pub mod side;
@@ -20,6 +20,9 @@ pub use class::Class;
 pub use clearing::one_off_participant;
 pub use forming::form;
 pub use half::Half;
+pub use limits::{
+    CATEGORIES, CURRENCIES, MAX_ACCOUNTS, MAX_MOVED, MAX_MOVEMENTS, MAX_SECURITIES, MEMBERS,
+};
 pub use movement::Movement;
 pub use party::Party;
 pub use side::Side;

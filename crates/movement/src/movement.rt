@@ -1,19 +1,22 @@
-// A movement of securities against cash.
+//! A movement of securities against cash.
 use crate::class::Class;
 use crate::party::Party;
 
-#[derive(Clone, Copy, PartialEq, Eq, Debug)]
+/// What a trade becomes on the book: securities that its seller gives, and cash that its buyer pays for them.
+#[derive(Clone, Copy, PartialEq, Eq, Debug, Default)]
 pub struct Movement {
     pub number: u32,
     pub class: Class,
     pub security: u8,
     pub quantity: u64,
+    // Stays: the number of a kind of the cash register, as the security is of the other; an enum would ask more of callers.
     pub currency: u8,
     pub sum: u64,
-    // the day of settlement
+    /// The day of settlement.
     pub day: u16,
     pub seller: Party,
     pub buyer: Party,
-    // whether it became ready this afternoon
+    /// Whether it became ready this afternoon.
+    // Stays: a plain yes or no; that it is ready follows from the two consents.
     pub late: bool,
 }

@@ -1,23 +1,29 @@
-// A trade as the exchange reports it, by any numbers.
+//! A trade as the exchange reports it, by any numbers.
 
-// A side of a trade: a member, the letter of a category, and the clearing field.
+/// A side of a trade.
 #[derive(Clone, Copy, PartialEq, Eq, Debug)]
 pub struct TradeSide {
     pub member: u8,
+    /// A letter.
+    // Stays: any letter is asked about, in its turn.
     pub category: u8,
+    /// Blank, or the participant that acts for the side this once.
     pub clearing: [u8; 4],
 }
 
+/// A trade, before anything is asked of it.
 #[derive(Clone, Copy, PartialEq, Eq, Debug)]
 pub struct Trade {
     pub number: u32,
-    // a letter
+    /// A letter.
+    // Stays: any letter is asked about, in its turn.
     pub class: u8,
     pub security: u8,
     pub quantity: u64,
+    // Stays: any number is asked about, in its turn.
     pub currency: u8,
     pub sum: u64,
-    // the day of settlement
+    /// The day of settlement.
     pub day: u16,
     pub seller: TradeSide,
     pub buyer: TradeSide,

@@ -2,3 +2,5 @@ mod Alike
 mod Parts
 mod Places
 pub mod Sums
+pub mod TableRows
+pub mod Zeros

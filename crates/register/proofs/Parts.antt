@@ -1,11 +1,18 @@
 -- How the parts of a joined register sit in the whole.
-use Rattle.std.proofs.Common.{◌≡◌, ℕ, ◌+◌, ◌-◌, ◌<◌, Bool, true, false, cond, is_ok, Result, refl, ap, ◌∙◌, arith}
+use Rattle.std.proofs.Common.{◌≡◌, ℕ, ◌+◌, ◌<◌, Bool, true, false, cond, is_ok, Result, refl, ap, ◌∙◌, arith}
 use Rattle.std.proofs.lemmas.Bool.Decides.{nat_tests}
-use Rattle.register.specs.Answers.{Changed, Put, Taken}
+use Rattle.register.specs.Answers.{Changed, Enters}
+use Rattle.register.specs.Entry.{amount_after}
 use Rattle.register.specs.Holdings.{Holdings, with_amount}
-use Rattle.register.specs.Joined.{joined_holdings, Shown}
+use Rattle.register.specs.Joined.{joined_kinds, joined_accounts, joined_holdings}
+use Rattle.register.specs.declared.entry.Entry.{Entry}
 use Rattle.register.specs.declared.refusal.Refusal.{Refusal}
 use Rattle.register.proofs.Alike.{same_holdings}
+
+-- that a kind and an account are shown
+pub record Shown (f s : Holdings) (k a : ℕ) : Type 0 where
+  pub kind : k < joined_kinds f s
+  pub account : a < joined_accounts f s
 
 -- kind p of a part is kind k of the whole that is made of it, and both know account a
 pub record Within (whole : Holdings → Holdings) (part : Holdings) (p k a : ℕ) : Type 0 where
@@ -28,17 +35,11 @@ through whole {part} {part'} {done} {done'} {answer} {answer'} e d c = record {
   after = ap whole c.after ∙ whole_cond whole (is_ok answer) done part ∙ rw (e, d);
 }
 
--- what a part puts, the whole puts
-pub put_through : {whole : Holdings → Holdings} {part part' : Holdings} {p k a : ℕ} (n : ℕ) {r : Result Unit Refusal} →
-    Within whole part p k a → Put part p a n r part' → Put (whole part) k a n r (whole part')
-put_through {whole} {part} {part'} {p} {k} {a} n w c =
-    through whole (grind (arith, nat_tests)) (w.changes (part.amount p a + n) ∙ ap (λ x. with_amount (whole part) k a (x + n)) w.same) c
-
--- what a part takes, the whole takes
-pub take_through : {whole : Holdings → Holdings} {part part' : Holdings} {p k a : ℕ} (n : ℕ) {r : Result Unit Refusal} →
-    Within whole part p k a → Taken part p a n r part' → Taken (whole part) k a n r (whole part')
-take_through {whole} {part} {part'} {p} {k} {a} n w c =
-    through whole (grind (arith, nat_tests)) (w.changes (part.amount p a - n) ∙ ap (λ x. with_amount (whole part) k a (x - n)) w.same) c
+-- what is entered in a part is entered in the whole
+pub enters_through : {whole : Holdings → Holdings} {part part' : Holdings} {p k a : ℕ} (e : Entry) {r : Result Unit Refusal} →
+    Within whole part p k a → Enters part p a e r part' → Enters (whole part) k a e r (whole part')
+enters_through {whole} {part} {part'} {p} {k} {a} e w c =
+    through whole (rw w.same (grind (arith, nat_tests))) (w.changes (amount_after (part.amount p a) e) ∙ ap (λ x. with_amount (whole part) k a (amount_after x e)) w.same) c
 
 -- a kind of the first register
 pub first_within : {f s : Holdings} {k a : ℕ} → Shown f s k a → k < f.kinds → Within (λ f. joined_holdings f s) f k k a

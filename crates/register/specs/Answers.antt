@@ -1,31 +1,30 @@
--- When put, take and transfer refuse, and what they leave.
-use Rattle.std.specs.Prelude.{◌≡◌, ℕ, ◌+◌, Bool, cond, not, ◌&&◌, ◌||◌, is_ok, Ok, Err, Result, ◌==◌, nat_le, nat_lt}
+-- When an entry and a transfer are refused, and what they leave.
+use Rattle.std.specs.Prelude.{◌≡◌, ℕ, ◌+◌, cond, not, ◌&&◌, ◌||◌, is_ok, Ok, Result, ◌==◌, nat_le, nat_lt}
 use Rattle.register.specs.Holdings.{Holdings, limit, raised, lowered, moved}
+use Rattle.register.specs.Entry.{room_for, holdings_after}
+use Rattle.register.specs.declared.entry.Entry.{Entry}
+use Rattle.register.specs.declared.entry.Entry.TheVariants.{Put as putting, Take as taking}
 use Rattle.register.specs.declared.refusal.Refusal.{Refusal}
 use Rattle.register.specs.declared.refusal.Refusal.TheVariants.{UnknownKind, UnknownAccount, HoldsLess, OverLimit}
+pub use Rattle.register.specs.Refusals.{refusal_number, refuses}
 
--- the number of each refusal
-abbrev pub refusal_number : Refusal → ℕ
-refusal_number UnknownKind = 91
-refusal_number UnknownAccount = 92
-refusal_number HoldsLess = 93
-refusal_number OverLimit = 94
+-- refused where the kind or the account is not shown, else answered as r says
+abbrev pub unless_unknown : {A : Type 0} → Holdings → ℕ → ℕ → Result A Refusal → Result A Refusal
+unless_unknown h k a r = refuses (nat_le h.kinds k) UnknownKind (refuses (nat_le h.accounts a) UnknownAccount r)
 
--- refused by e where b holds, else answered as r says
-abbrev pub refuses : Bool → Refusal → Result Unit Refusal → Result Unit Refusal
-refuses b e r = cond b (Err e) r
+-- whether a kind and an account are shown
+abbrev pub known_answer : Holdings → ℕ → ℕ → Result Unit Refusal
+known_answer h k a = unless_unknown h k a (Ok tt)
+
+-- what is answered to an entry
+abbrev pub entry_answer : Holdings → ℕ → ℕ → Entry → Result Unit Refusal
+entry_answer h k a e = unless_unknown h k a (room_for (h.amount k a) e)
 
 abbrev pub put_answer : Holdings → ℕ → ℕ → ℕ → Result Unit Refusal
-put_answer h k a n =
-    refuses (nat_le h.kinds k) UnknownKind
-    (refuses (nat_le h.accounts a) UnknownAccount
-    (refuses (nat_lt limit (h.amount k a + n)) OverLimit (Ok tt)))
+put_answer h k a n = entry_answer h k a (putting n)
 
 abbrev pub take_answer : Holdings → ℕ → ℕ → ℕ → Result Unit Refusal
-take_answer h k a n =
-    refuses (nat_le h.kinds k) UnknownKind
-    (refuses (nat_le h.accounts a) UnknownAccount
-    (refuses (nat_lt (h.amount k a) n) HoldsLess (Ok tt)))
+take_answer h k a n = entry_answer h k a (taking n)
 
 abbrev pub transfer_answer : Holdings → ℕ → ℕ → ℕ → ℕ → Result Unit Refusal
 transfer_answer h k from to n =
@@ -38,6 +37,10 @@ transfer_answer h k from to n =
 pub record Changed {A E X : Type 0} (before : X) (answer : Result A E) (done : X) (r : Result A E) (left : X) : Type 0 where
   pub answered : r ≡ answer
   pub after : left ≡ cond (is_ok answer) done before
+
+-- what an entry promises
+abbrev pub Enters : Holdings → ℕ → ℕ → Entry → Result Unit Refusal → Holdings → Type 0
+Enters h k a e = Changed h (entry_answer h k a e) (holdings_after h k a e)
 
 -- what put promises
 abbrev pub Put : Holdings → ℕ → ℕ → ℕ → Result Unit Refusal → Holdings → Type 0

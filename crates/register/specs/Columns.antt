@@ -1,6 +1,8 @@
 -- A row of two columns: what was put and what was taken.
 use Rattle.std.specs.Prelude.{ℕ, ◌+◌, ◌-◌, ◌≤◌, min, Bool, cond, ◌&&◌, nat_le}
 use Rattle.register.specs.Holdings.{limit}
+use Rattle.register.specs.declared.entry.Entry.{Entry}
+use Rattle.register.specs.declared.entry.Entry.TheVariants.{Put, Take}
 use Rattle.register.specs.declared.columns.Columns.{Columns}
 
 -- no column that a register writes is larger: 10^18
@@ -34,6 +36,11 @@ credited c n = record { credits = (ready c n).credits + n; debits = (ready c n).
 -- n taken; debits do not pass credits
 abbrev pub debited : Columns → ℕ → Columns
 debited c n = record { credits = (ready c 0).credits; debits = (ready c 0).debits + n }
+
+-- the columns that an entry leaves
+abbrev pub columns_after : Columns → Entry → Columns
+columns_after c (Put n) = credited c n
+columns_after c (Take n) = debited c n
 
 -- no column is above its limit
 pub record Fits (c : Columns) : Type 0 where

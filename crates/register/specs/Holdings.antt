@@ -1,5 +1,6 @@
 -- What a register means: one amount for each kind and account.
 use Rattle.std.specs.Prelude.{ℕ, zero, suc, ◌+◌, ◌-◌, cond, ◌&&◌, ◌==◌}
+use Rattle.std.specs.List.{sum_by, range_with_len}
 
 -- the number of kinds, the number of accounts, and the amount of each kind on each account
 pub record Holdings : Type 0 where
@@ -15,13 +16,13 @@ limit = 1000000000000000
 abbrev pub most : ℕ
 most = 1000
 
+-- nothing of any kind on any account
+abbrev pub zero_holdings : ℕ → ℕ → Holdings
+zero_holdings kinds accounts = record { kinds = kinds; accounts = accounts; amount = λ k a. 0 }
+
 -- the same with n at one kind and account
 abbrev pub with_amount : Holdings → ℕ → ℕ → ℕ → Holdings
-with_amount h k a n = record {
-  kinds = h.kinds;
-  accounts = h.accounts;
-  amount = λ j b. cond (j == k && b == a) n (h.amount j b);
-}
+with_amount h k a n = record h { amount = λ j b. cond (j == k && b == a) n (h.amount j b) }
 
 -- n more on one account
 abbrev pub raised : Holdings → ℕ → ℕ → ℕ → Holdings
@@ -42,4 +43,4 @@ sum_below (suc n) f = sum_below n f + f n
 
 -- what all accounts hold of a kind together
 abbrev pub total : Holdings → ℕ → ℕ
-total h k = sum_below h.accounts (h.amount k)
+total h k = sum_by (h.amount k) (range_with_len 0 h.accounts)

@@ -1,7 +1,6 @@
 -- Two registers shown as one.
-use Rattle.std.specs.Prelude.{◌≡◌, ℕ, ◌+◌, ◌-◌, ◌<◌, min, cond, ◌&&◌, is_ok, Result, nat_le, nat_lt}
-use Rattle.register.specs.Answers.{Put, Taken}
-use Rattle.register.specs.Holdings.{Holdings, most, raised, lowered}
+use Rattle.std.specs.Prelude.{◌≡◌, ℕ, ◌+◌, ◌-◌, min, cond, ◌&&◌, is_ok, Result, nat_le, nat_lt}
+use Rattle.register.specs.Holdings.{Holdings, most}
 use Rattle.register.specs.declared.refusal.Refusal.{Refusal}
 use Rattle.register.specs.declared.joined.Joined.{Joined}
 
@@ -25,27 +24,18 @@ module _ (f s : Holdings) where
         0;
   }
 
-  -- that a kind and an account are shown
-  pub record Shown (k a : ℕ) : Type 0 where
-    pub kind : k < joined_kinds
-    pub account : a < joined_accounts
-
-module _ (f s : Holdings) where
   -- what a call leaves of the parts: the one that has the kind is changed where the call was answered, the other is not
   pub record PartsLeft (change : Holdings → ℕ → Holdings) (k : ℕ) (r : Result Unit Refusal) (f' s' : Holdings) : Type 0 where
     pub first : f' ≡ cond (is_ok r && nat_lt k f.kinds) (change f k) f
     pub second : s' ≡ cond (is_ok r && nat_le f.kinds k) (change s (k - f.kinds)) s
 
-  -- what putting leaves of the whole and of the parts
-  pub record PutJoined (k a n : ℕ) (r : Result Unit Refusal) (f' s' : Holdings) : Type 0 where
-    pub whole : Put (joined_holdings f s) k a n r (joined_holdings f' s')
-    pub parts : PartsLeft (λ h p. raised h p a n) k r f' s'
+-- the first of the two registers, and the second
+abbrev pub first_of : {S C : Type 0} → Joined S C → S
+first_of j = j.first
 
-  -- what taking leaves of the whole and of the parts
-  pub record TakenJoined (k a n : ℕ) (r : Result Unit Refusal) (f' s' : Holdings) : Type 0 where
-    pub whole : Taken (joined_holdings f s) k a n r (joined_holdings f' s')
-    pub parts : PartsLeft (λ h p. lowered h p a n) k r f' s'
+abbrev pub second_of : {S C : Type 0} → Joined S C → C
+second_of j = j.second
 
 -- what a joined register shows, by what its parts show
 abbrev pub joined_shows : {S C : Type 0} → (S → Holdings) → (C → Holdings) → Joined S C → Holdings
-joined_shows first second j = joined_holdings (first j.first) (second j.second)
+joined_shows first second j = joined_holdings (first (first_of j)) (second (second_of j))

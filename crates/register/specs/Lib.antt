@@ -1,6 +1,10 @@
 pub mod Holdings
+pub mod Refusals
+pub mod Entry
 pub mod Answers
 pub mod Rows
+pub mod RowRegister
+pub mod SignedRow
 pub mod Table
 pub mod Joined
 pub mod Columns

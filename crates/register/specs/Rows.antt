@@ -1,6 +1,8 @@
 -- Rows that go kind by kind, as many for each kind.
-use Rattle.std.specs.Prelude.{ℕ, ◌+◌, ◌*◌, ◌/◌, ◌<◌, min, cond, ◌&&◌, List, length, is_ok, Result, nat_lt, slice_index_or, slice_set}
-use Rattle.register.specs.Holdings.{Holdings, most}
+use Rattle.std.specs.Prelude.{ℕ, ◌+◌, ◌*◌, ◌/◌, ◌≤◌, min, cond, ◌&&◌, List, length, is_ok, Result, nat_lt, slice_index_or, slice_set}
+use Rattle.std.proofs.Math.Nat.{le-add_right}
+use Rattle.std.proofs.lemmas.Bool.{cond_both}
+use Rattle.register.specs.Holdings.{Holdings, limit, most}
 use Rattle.register.specs.declared.refusal.Refusal.{Refusal}
 
 module _ {X : Type 0} (kinds : ℕ) (rows : List X) where
@@ -36,7 +38,8 @@ module _ {X : Type 0} (kinds : ℕ) (rows : List X) where
     amount = λ k a. cond (nat_lt k shown_kinds && nat_lt a shown_accounts) (counts (slice_index_or rows (place k a) none)) 0;
   }
 
-  -- that a kind and an account are shown
-  pub record Known (k a : ℕ) : Type 0 where
-    pub kind : k < shown_kinds
-    pub account : a < shown_accounts
+-- no amount is above the limit where no row counts for more
+pub laid_bounded : {X : Type 0} (kinds : ℕ) (rows : List X) (counts : X → ℕ) (none : X) → ((x : X) → counts x ≤ limit) →
+    (k a : ℕ) → (laid kinds rows counts none).amount k a ≤ limit
+laid_bounded kinds rows counts none bounded k a =
+    cond_both _ _ 0 (λ n. n ≤ limit) (λ _. bounded _) (λ _. le-add_right 0 limit)

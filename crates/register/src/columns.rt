@@ -1,11 +1,14 @@
-// A row of two columns: what was put and what was taken.
+//! A row of two columns: what was put and what was taken.
 ghost use Rattle.std.specs.Prelude.{◌≡◌, ◌+◌, ◌-◌, ◌≤◌};
-ghost use Rattle.register.specs.Columns.{balance, ready as ready_of, credited as credited_by, debited as debited_by, Fits};
+ghost use Rattle.register.specs.Columns.{balance, empty as empty_columns, ready as ready_of, credited as credited_by, debited as debited_by, columns_after, Fits};
 ghost use Rattle.register.specs.Holdings.{limit};
+ghost use Rattle.std.proofs.Common.{rules};
 
+use crate::cell::Cell;
+use crate::entry::Entry;
 use crate::register::LIMIT;
 
-// No column that a register writes is larger.
+/// No column that a register writes is larger.
 pub const COLUMN_LIMIT: u64 = 1_000_000_000_000_000_000;
 
 #[derive(Clone, Copy, PartialEq, Eq, Debug)]
@@ -15,7 +18,7 @@ pub struct Columns {
 }
 
 impl Columns {
-    // Credits less debits, as an amount.
+    /// Credits less debits, as an amount.
     pub fn amount(&self) -> u64
         ensures { result ≡ balance self.now }
     {
@@ -39,7 +42,7 @@ impl Columns {
     }
 
     // The columns with an amount put.
-    pub(crate) fn credited(self, amount: u64) -> Columns
+    fn credited(self, amount: u64) -> Columns
         requires { balance self + amount ≤ limit }
         ensures columns { result ≡ credited_by self amount }
         ensures balance { balance result ≡ balance self + amount }
@@ -53,7 +56,7 @@ impl Columns {
     }
 
     // The columns with an amount taken.
-    pub(crate) fn debited(self, amount: u64) -> Columns
+    fn debited(self, amount: u64) -> Columns
         requires { amount ≤ balance self }
         ensures columns { result ≡ debited_by self amount }
         ensures balance { balance result ≡ balance self - amount }
@@ -65,4 +68,36 @@ impl Columns {
             debits: debits + amount,
         }
     }
+}
+
+impl Cell for Columns {
+    ghost amount = { balance };
+
+    ghost with_entry = { columns_after };
+
+    ghost kept = { Fits };
+
+    ghost empty = { empty_columns };
+
+    fn amount(&self) -> u64 {
+        Columns::amount(self)
+    }
+
+    fn with_entry(self, entry: Entry) -> Columns {
+        match entry {
+            Entry::Put(amount) => self.credited(amount),
+            Entry::Take(amount) => self.debited(amount),
+        }
+    }
+
+    fn empty() -> Columns {
+        Columns {
+            credits: 0,
+            debits: 0,
+        }
+    }
+
+    ghost bounded = { Prim.search rules };
+
+    ghost copied = { Prim.search rules };
 }

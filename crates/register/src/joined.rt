@@ -1,11 +1,12 @@
-// Two registers shown as one: the kinds of the first, then those of the second.
+//! Two registers shown as one: the kinds of the first, then those of the second.
 ghost use Rattle.std.specs.Prelude.{◌≡◌};
-ghost use Rattle.register.specs.Answers.{Put, Taken};
+ghost use Rattle.register.specs.Answers.{Enters, Put, Taken};
+ghost use Rattle.register.specs.Entry.{holdings_after};
 ghost use Rattle.register.specs.Holdings.{raised, lowered};
-ghost use Rattle.register.specs.Joined.{joined_holdings, joined_shows, Shown, PartsLeft, PutJoined, TakenJoined};
+ghost use Rattle.register.specs.Joined.{joined_holdings, joined_shows, first_of, second_of, PartsLeft};
 ghost use Rattle.std.proofs.Common.{rules};
 
-use crate::questions::known;
+use crate::entry::Entry;
 use crate::refusal::Refusal;
 use crate::register::{MOST, Register};
 
@@ -16,47 +17,23 @@ pub struct Joined<S: Register, C: Register> {
 }
 
 impl<S: Register, C: Register> Joined<S, C> {
+    /// The two as one: the accounts that both have, and as many kinds as a register may show.
     pub fn new(first: S, second: C) -> Joined<S, C>
-        ensures shows { joined_shows S.Register.shows C.Register.shows result ≡ joined_holdings (S.Register.shows first) (C.Register.shows second) }
-        ensures first { result.first ≡ first }
-        ensures second { result.second ≡ second }
+        ensures shows { joined_shows S.Register.shows C.Register.shows result
+            ≡ joined_holdings (S.Register.shows first) (C.Register.shows second) }
+        ensures first { first_of result ≡ first }
+        ensures second { second_of result ≡ second }
     {
         Joined { first, second }
     }
 
-    // The parts as they stand.
+    /// The parts as they stand.
     pub fn into_parts(self) -> (S, C)
-        ensures first { result.0 ≡ self.first }
-        ensures second { result.1 ≡ self.second }
+        ensures first { result.0 ≡ first_of self }
+        ensures second { result.1 ≡ second_of self }
     {
         let Joined { first, second } = self;
         (first, second)
-    }
-
-    // Raises an amount that is shown.
-    fn raise(&mut self, kind: usize, account: usize, amount: u64) -> Result<(), Refusal>
-        requires { Shown (S.Register.shows self.old.first) (C.Register.shows self.old.second) kind account }
-        ensures { PutJoined (S.Register.shows self.old.first) (C.Register.shows self.old.second) kind account amount result (S.Register.shows self.new.first) (C.Register.shows self.new.second) }
-    {
-        let first = self.first.kinds();
-        if kind < first {
-            self.first.put(kind, account, amount)
-        } else {
-            self.second.put(kind - first, account, amount)
-        }
-    }
-
-    // Lowers an amount that is shown.
-    fn lower(&mut self, kind: usize, account: usize, amount: u64) -> Result<(), Refusal>
-        requires { Shown (S.Register.shows self.old.first) (C.Register.shows self.old.second) kind account }
-        ensures { TakenJoined (S.Register.shows self.old.first) (C.Register.shows self.old.second) kind account amount result (S.Register.shows self.new.first) (C.Register.shows self.new.second) }
-    {
-        let first = self.first.kinds();
-        if kind < first {
-            self.first.take(kind, account, amount)
-        } else {
-            self.second.take(kind - first, account, amount)
-        }
     }
 }
 
@@ -82,7 +59,7 @@ impl<S: Register, C: Register> Register for Joined<S, C> {
     }
 
     fn tell(&self, kind: usize, account: usize) -> u64 {
-        if kind >= self.kinds() || account >= self.accounts() {
+        if self.ask_known(kind, account).is_err() {
             return 0;
         }
         let first = self.first.kinds();
@@ -93,19 +70,45 @@ impl<S: Register, C: Register> Register for Joined<S, C> {
         }
     }
 
-    fn put(&mut self, kind: usize, account: usize, amount: u64) -> Result<(), Refusal>
-        ensures put { Put (joined_shows S.Register.shows C.Register.shows self.old) kind account amount result (joined_shows S.Register.shows C.Register.shows self.new) }
-        ensures parts { PartsLeft (S.Register.shows self.old.first) (C.Register.shows self.old.second) (λ h k. raised h k account amount) kind result (S.Register.shows self.new.first) (C.Register.shows self.new.second) }
+    fn enter(&mut self, kind: usize, account: usize, entry: Entry) -> Result<(), Refusal>
+        ensures enters { Enters (joined_shows S.Register.shows C.Register.shows self.old)
+            kind account entry result
+            (joined_shows S.Register.shows C.Register.shows self.new) }
+        ensures parts { PartsLeft
+            (S.Register.shows (first_of self.old)) (C.Register.shows (second_of self.old))
+            (λ h k. holdings_after h k account entry) kind result
+            (S.Register.shows (first_of self.new)) (C.Register.shows (second_of self.new)) }
     {
-        known(self.kinds(), self.accounts(), kind, account)?;
-        self.raise(kind, account, amount)
+        self.ask_known(kind, account)?;
+        let first = self.first.kinds();
+        if kind < first {
+            self.first.enter(kind, account, entry)
+        } else {
+            self.second.enter(kind - first, account, entry)
+        }
+    }
+
+    fn put(&mut self, kind: usize, account: usize, amount: u64) -> Result<(), Refusal>
+        ensures put { Put (joined_shows S.Register.shows C.Register.shows self.old)
+            kind account amount result
+            (joined_shows S.Register.shows C.Register.shows self.new) }
+        ensures parts { PartsLeft
+            (S.Register.shows (first_of self.old)) (C.Register.shows (second_of self.old))
+            (λ h k. raised h k account amount) kind result
+            (S.Register.shows (first_of self.new)) (C.Register.shows (second_of self.new)) }
+    {
+        self.enter(kind, account, Entry::Put(amount))
     }
 
     fn take(&mut self, kind: usize, account: usize, amount: u64) -> Result<(), Refusal>
-        ensures taken { Taken (joined_shows S.Register.shows C.Register.shows self.old) kind account amount result (joined_shows S.Register.shows C.Register.shows self.new) }
-        ensures parts { PartsLeft (S.Register.shows self.old.first) (C.Register.shows self.old.second) (λ h k. lowered h k account amount) kind result (S.Register.shows self.new.first) (C.Register.shows self.new.second) }
+        ensures taken { Taken (joined_shows S.Register.shows C.Register.shows self.old)
+            kind account amount result
+            (joined_shows S.Register.shows C.Register.shows self.new) }
+        ensures parts { PartsLeft
+            (S.Register.shows (first_of self.old)) (C.Register.shows (second_of self.old))
+            (λ h k. lowered h k account amount) kind result
+            (S.Register.shows (first_of self.new)) (C.Register.shows (second_of self.new)) }
     {
-        known(self.kinds(), self.accounts(), kind, account)?;
-        self.lower(kind, account, amount)
+        self.enter(kind, account, Entry::Take(amount))
     }
 }

@@ -1,41 +1,66 @@
-// What a register is, whatever it keeps its amounts in.
+//! What a register is, whatever it keeps its amounts in.
 ghost use Rattle.std.specs.Prelude.{◌≡◌, ℕ, ◌≤◌};
 ghost use Rattle.register.specs.Holdings.{Holdings, limit, most};
-ghost use Rattle.register.specs.Answers.{Put, Taken, Transferred};
+ghost use Rattle.register.specs.Answers.{known_answer, Enters, Put, Taken, Transferred};
 
+use crate::entry::Entry;
 use crate::refusal::Refusal;
 
-// No amount is larger.
+/// No amount is larger.
 pub const LIMIT: u64 = 1_000_000_000_000_000;
 
-// No register shows more kinds, or more accounts.
+/// No register shows more kinds, or more accounts.
 pub const MOST: usize = 1000;
 
+/// How many pieces or hundredths of each kind stand on each account.
 pub trait Register: Drop {
-    // The meaning: the amount of each kind on each account.
+    /// The meaning: the amount of each kind on each account.
     ghost shows: { Self → Holdings };
 
-    // How many kinds there are.
+    /// How many kinds there are.
     fn kinds(&self) -> usize
         ensures { result ≡ (shows self.now).kinds };
 
-    // How many accounts there are.
+    /// How many accounts there are.
     fn accounts(&self) -> usize
         ensures { result ≡ (shows self.now).accounts };
 
-    // The amount of a kind on an account, 0 where either is unknown.
+    /// The amount of a kind on an account, 0 where either is unknown.
     fn tell(&self, kind: usize, account: usize) -> u64
         ensures { result ≡ (shows self.now).amount kind account };
 
-    // Raises one amount.
+    /// Refuses a kind or an account that is not shown.
+    fn ask_known(&self, kind: usize, account: usize) -> Result<(), Refusal>
+        ensures { result ≡ known_answer (shows self.now) kind account }
+    {
+        if kind >= self.kinds() {
+            return Err(Refusal::UnknownKind);
+        }
+        if account >= self.accounts() {
+            return Err(Refusal::UnknownAccount);
+        }
+        Ok(())
+    }
+
+    /// Enters a change of one amount.
+    fn enter(&mut self, kind: usize, account: usize, entry: Entry) -> Result<(), Refusal>
+        ensures { Enters (shows self.old) kind account entry result (shows self.new) };
+
+    /// Raises one amount.
     fn put(&mut self, kind: usize, account: usize, amount: u64) -> Result<(), Refusal>
-        ensures { Put (shows self.old) kind account amount result (shows self.new) };
+        ensures { Put (shows self.old) kind account amount result (shows self.new) }
+    {
+        self.enter(kind, account, Entry::Put(amount))
+    }
 
-    // Lowers one amount.
+    /// Lowers one amount.
     fn take(&mut self, kind: usize, account: usize, amount: u64) -> Result<(), Refusal>
-        ensures { Taken (shows self.old) kind account amount result (shows self.new) };
+        ensures { Taken (shows self.old) kind account amount result (shows self.new) }
+    {
+        self.enter(kind, account, Entry::Take(amount))
+    }
 
-    // Lowers one amount and raises another of the same kind by the same number.
+    /// Lowers one amount and raises another of the same kind by the same number.
     fn transfer(&mut self, kind: usize, from: usize, to: usize, amount: u64) -> Result<(), Refusal>
         ensures { Transferred (shows self.old) kind from to amount result (shows self.new) }
     {
@@ -67,5 +92,6 @@ pub trait Register: Drop {
 
     ghost unknown_kind: { (s : Self) (k a : ℕ) → (shows s).kinds ≤ k → (shows s).amount k a ≡ 0 };
 
-    ghost unknown_account: { (s : Self) (k a : ℕ) → (shows s).accounts ≤ a → (shows s).amount k a ≡ 0 };
+    ghost unknown_account: { (s : Self) (k a : ℕ) →
+        (shows s).accounts ≤ a → (shows s).amount k a ≡ 0 };
 }

@@ -54,6 +54,5 @@ pub fn open(heap: Global) -> Result<Book<Table, Joined<Table, Turnover>>, AllocE
 {
     let securities = securities(heap)?;
     let cash = cash(heap)?;
-    let book = Book::open(heap, securities, cash, 0)?;
-    Ok(book)
+    Ok(Book::open(securities, cash, 0))
 }

@@ -1,21 +1,14 @@
-use Rattle.std.proofs.Common.{arith, rules}
-use Rattle.register.proofs.Sums.{sum_bound, sum_more}
+use Rattle.std.proofs.Common.{◌≤◌, rules, tests, arith}
+use Rattle.std.proofs.lemmas.Iterator.{YieldsList-from_range}
+use Rattle.std.proofs.lemmas.Iterator.Adapters.{fits_from_length, at_most_from_yields_List}
+use Rattle.std.proofs.lemmas.List.FromFn.{length-range_with_len}
 use Rattle.book.proofs.sums.sum.Goals as goal
 
-pub overflow_add-sum : goal.overflow_add-sum
-overflow_add-sum g c =
-    let few = g.met.R.Register.few_accounts c.args.register.now in
-    let each = g.met.R.Register.bounded c.args.register.now c.args.kind in
-    let bound = sum_bound ((g.R.Register.shows c.args.register.now).amount c.args.kind) 1000000000000000 c.loop-account.account (λ i _. each i) in
-    let last = each c.loop-account.account in
-    omega arith
-
-pub loop-account-preserved : goal.loop-account-preserved
-loop-account-preserved g c = search (rules, sum_more)
-
-pub returns : goal.returns
-returns g c =
-    let few = g.met.R.Register.few_accounts c.args.register.now in
-    let each = g.met.R.Register.bounded c.args.register.now c.args.kind in
-    let bound = sum_bound ((g.R.Register.shows c.args.register.now).amount c.args.kind) 1000000000000000 c.loop-account.account (λ i _. each i) in
-    record { value = search rules; bound = omega arith }
+pub sum-requires-clause-fits : goal.sum-requires-clause-fits
+sum-requires-clause-fits g c =
+    let laws = g.met.R.Register in
+    let few : c.accounts.result ≤ 1000 = omega (arith, c.accounts.ensures, laws.few_accounts c.args.register.now) in
+    fits_from_length _ _ 1000 _
+    (at_most_from_yields_List (YieldsList-from_range 0 c.accounts.result c.accounts.result c.map.ensures.source (omega arith)) (rw length-range_with_len few))
+    c.map.ensures.closure (omega arith)
+    (λ x r q k. let small : (g.R.Register.shows c.args.register.now).amount c.args.kind x ≤ 1000000000000000 = laws.bounded c.args.register.now c.args.kind x in search (rules, tests))

@@ -24,5 +24,5 @@ returns g c =
     let o = opens_on (g.S.Register.shows c.args.securities) (g.C.Register.shows c.args.cash) c.args.first_day in
     let state = state_of g.S.Register.shows g.C.Register.shows in
     let leads : Leads o (history c.args.calls.now (vec_items c.loop-call.answers)) (state c.loop-call.book) =
-    leads_all o c.args.calls.now c.loop-call.call-index _ _ (search rules) (c.loop-call.invariant.2 o c.in_ok-book.ensures) in
+    leads_all o c.args.calls.now c.loop-call.call-index _ _ (search rules) (c.loop-call.invariant.2 o c.open-book.ensures) in
     record { answered = search rules; leads = leads; lawful = all_lawful leads }

@@ -1,35 +1,24 @@
-use Rattle.std.proofs.Common.{◌≡◌, true, set, Some, vec_items, sym, ap, ◌∙◌, rules}
-use Rattle.fault.proofs.Asking.{accepted}
-use Rattle.movement.specs.Bounds.{movement_fits}
-use Rattle.movement.specs.Consents.{consented}
-use Rattle.movement.proofs.Fitting.{fit_at, fit_set}
+use Rattle.std.proofs.Common.{rules}
+use Rattle.movement.specs.Terms.{accounts_of}
 use Rattle.book.specs.Books.{daily_of}
-use Rattle.book.specs.Daily.{with_movements, on_book}
-use Rattle.book.proofs.Finding.{consent_passes}
+use Rattle.book.specs.Found.{FoundAt}
+use Rattle.book.proofs.Finding.{consent_done, consented_fit, consented_rising, written_at}
 use Rattle.book.proofs.daybook.Daybook.consent.Goals as goal
 
 pub returns : goal.returns
 returns c =
-    let d = daily_of c.args.self.now in
-    let m = c.index.result.now in
-    let at = c.in-Some.ensures in
-    let read = c.index.ensures in
-    let found : on_book c.args.number d.movements ≡ Some m = at.found m ∙ ap Some (sym read) in
-    accepted (consent_passes d c.args.number c.args.participant m found (search rules) (search rules))
-    (ap (with_movements d d.highest)
-    (ap (set d.movements c.in-Some.i) (c.consented.ensures ∙ ap (λ x. consented x c.args.participant d.half) read)
-    ∙ sym (at.changed (λ x. consented x c.args.participant d.half) m)))
+    let self = c.args.self.now in
+    let at : FoundAt self.movements.items c.args.number c.in_ok-i.i = search rules in
+    consent_done (daily_of self) c.args.number c.args.participant c.in_ok-i.i at _ _ _ _ c.deref.ensures.0 (search rules) (search rules) c.consented.ensures
+    (written_at self.movements c.in_ok-i.i _ _ c.deref_mut.ensures.value)
 
 pub invariant_of-self : goal.invariant_of-self
 invariant_of-self c =
     let self = c.args.self.now in
-    let ms = vec_items self.movements in
-    let m = c.index.result.now in
-    let fits : movement_fits self.accounts self.kinds m ≡ true =
-    rw c.index.ensures (fit_at self.accounts self.kinds ms c.in-Some.i m self.bounds c.in-Some.ensures.within) in
+    let at : FoundAt self.movements.items c.args.number c.in_ok-i.i = search rules in
     record {
-      few = search rules;
-      room = search rules;
-      agreements = self.agreements;
-      bounds = fit_set self.accounts self.kinds ms c.in-Some.i c.consented.result self.bounds (rw c.consented.ensures fits);
+      bounds = consented_fit (daily_of self) c.args.number c.args.participant c.in_ok-i.i at (accounts_of self.terms) self.kinds _ _ _ _ _ self.bounds c.deref.ensures.0 c.consented.ensures
+          (written_at self.movements c.in_ok-i.i _ _ c.deref_mut.ensures.value);
+      rising = consented_rising (daily_of self) c.args.number c.args.participant c.in_ok-i.i at self.highest _ _ _ _ _ self.rising c.deref.ensures.0 c.consented.ensures
+          (written_at self.movements c.in_ok-i.i _ _ c.deref_mut.ensures.value);
     }

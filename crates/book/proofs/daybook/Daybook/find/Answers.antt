@@ -1,18 +1,11 @@
-use Rattle.std.proofs.Common.{vec_items, rules}
-use Rattle.book.proofs.Finding.{found_at, none_found, none_more}
+use Rattle.std.proofs.Common.{rules, tests}
+use Rattle.std.proofs.lemmas.Iterator.{YieldsList-from_slice}
+use Rattle.std.proofs.lemmas.Iterator.Search.{position_from_yields_List}
+use Rattle.book.specs.Daily.{has_number}
+use Rattle.book.proofs.Finding.{found_by}
 use Rattle.book.proofs.daybook.Daybook.find.Goals as goal
 
-pub returns-then-movement-number : goal.returns-then-movement-number
-returns-then-movement-number c =
-    let same = c.deref-movement-items.ensures.value in
-    found_at (vec_items c.args.self.now.movements) c.args.number c.loop-i.i _ (rw same at c.loop-i-test.true) (rw same at c.if-movement-number.true) c.loop-i.invariant
-
-pub loop-i-preserved : goal.loop-i-preserved
-loop-i-preserved c =
-    let same = c.deref-movement-items.ensures.value in
-    none_more (vec_items c.args.self.now.movements) c.args.number c.loop-i.i _ (rw same at c.loop-i-test.true) (rw same at c.if-movement-number.false) c.loop-i.invariant
-
-pub returns : goal.returns
-returns c =
-    let end = rw c.deref-movement-items.ensures.value at c.loop-i-test.false in
-    none_found (vec_items c.args.self.now.movements) c.args.number (λ k d h w. c.loop-i.invariant k d (search rules) w)
+pub returns-clause-found : goal.returns-clause-found
+returns-clause-found c =
+    found_by c.args.self.now.movements.items c.args.number _
+    (position_from_yields_List (has_number c.args.number) _ _ _ c.position.ensures.ran (YieldsList-from_slice c.args.self.now.movements.items cc) (λ x b q k. search (rules, tests)))

@@ -1,12 +1,11 @@
-use Rattle.std.proofs.Common.{ap, rules}
-use Rattle.movement.specs.Bounds.{agreed_fits, all_fit}
+use Rattle.std.proofs.Common.{ap}
+use Rattle.movement.specs.Bounds.{all_fit}
+use Rattle.movement.specs.Terms.{accounts_of}
+use Rattle.book.proofs.Ordering.{rising_none}
 use Rattle.book.proofs.daybook.Daybook.new.Goals as goal
 
 pub invariant_of-result : goal.invariant_of-result
-invariant_of-result c =
-    record {
-      few = search rules;
-      room = search rules;
-      agreements = λ m k. ap (λ t. agreed_fits c.args.accounts (t m k)) c.new.ensures;
-      bounds = ap (all_fit c.args.accounts c.args.kinds) c.in_ok-movements.ensures.items;
-    }
+invariant_of-result c = record {
+  bounds = ap (all_fit (accounts_of c.new.result) c.args.kinds) c.new-2.ensures;
+  rising = rising_none _ c.new-2.ensures;
+}

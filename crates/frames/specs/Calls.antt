@@ -39,7 +39,8 @@ abbrev pub side_at : ℕ → List ℕ → TradeSide
 side_at place fields = record {
   member = slice_index fields place;
   category = slice_index fields (place + 1);
-  clearing = slice_index fields (place + 2) ∷ (slice_index fields (place + 3) ∷ (slice_index fields (place + 4) ∷ (slice_index fields (place + 5) ∷ [])));
+  clearing = slice_index fields (place + 2) ∷ slice_index fields (place + 3)
+      ∷ slice_index fields (place + 4) ∷ slice_index fields (place + 5) ∷ [];
 }
 
 -- a trade: number 4, class 1, security 1, quantity 8, currency 1, sum 8, day 2, seller 6, buyer 6

@@ -63,6 +63,6 @@ pub record Responded {Z : Type 0} (line : List ℕ) (s t : State) (out out' : Ve
   pub becomes : t ≡ (if done then after_line s line else s)
   pub answered : done ≡ true → LineAnswered line s (line_answer s line) t
   pub stopped : done ≡ false → spare out < longest
-  -- it takes at most the longest line's room, and gives none back
+  -- it takes at most the longest line's room, and the capacity never shrinks
   pub used : spare out ≤ spare out' + (if done then longest else 0)
   pub keeps_room : vec_capacity out ≤ vec_capacity out'

@@ -14,6 +14,7 @@ use Rattle.frames.specs.Replies.{after_line, answer_line, line_answer, longest, 
 use Rattle.frames.specs.Stream.{kept}
 
 -- the whole lines in the text of an unfinished line followed by a chunk: each newline ends one
+-- (std's slice_split is no plainer: it would cut at a newline of p too, and p is text, whatever it has)
 abbrev pub lines : List ℕ → List ℕ → List (List ℕ)
 lines p [] = []
 lines p (c ∷ cs) = if c == 10 then p ∷ lines [] cs else lines (p ++ c ∷ []) cs
@@ -31,10 +32,11 @@ last_line (c ∷ cs) = (c ∷ cs) ∷ []
 -- the law: how the text is cut into chunks does not matter
 abbrev pub ChunksAlike : Type 0
 ChunksAlike =
-    (p a b : List ℕ) → (lines p (a ++ b) ≡ lines p a ++ lines (rest p a) b) × (rest p (a ++ b) ≡ rest (rest p a) b)
+    (p a b : List ℕ) → (lines p (a ++ b) ≡ lines p a ++ lines (rest p a) b)
+    × (rest p (a ++ b) ≡ rest (rest p a) b)
 
--- the law: what is kept of the text before a chunk does what that text does. The lines that then end say the same, the
--- same is kept after it, and at the end of the input the last line says the same
+-- the law: what is kept of the text before a chunk does what that text does. The lines that then
+-- end say the same, the same is kept after it, and at the end of the input the last line says the same
 abbrev pub TextsAlike : Type 0
 TextsAlike =
     (p chunk : List ℕ) → (map line_bytes (lines (kept p) chunk) ≡ map line_bytes (lines p chunk))
@@ -71,7 +73,8 @@ LinesLawful =
     (o : Opening) (h : List Event) (s : State) (ls : List (List ℕ)) → Leads o h s
     → Leads o (events s ls h) (after_lines s ls) × Lawful o (events s ls h) (after_lines s ls)
 
--- lines were answered, one after the other; each takes at most the longest line's room, and gives none back
+-- lines were answered, one after the other; each takes at most the longest line's room, and the
+-- capacity never shrinks
 pub record LinesAnswered {Z : Type 0} (ls : List (List ℕ)) (s t : State) (out out' : Vec ℕ Z) : Type 0 where
   pub written : vec_items out' ≡ vec_items out ++ answers s ls
   pub becomes : t ≡ after_lines s ls
@@ -86,14 +89,16 @@ pub record Stopped {Z : Type 0} (ls : List (List ℕ)) (s t : State) (out out' :
   pub answered : LinesAnswered first s t out out'
   pub stopped : spare out < longest * length ls
 
--- a chunk after the text p of an unfinished line: its lines were answered, and the first characters q of what is left are
--- kept, or the first of the lines were answered
-abbrev pub Fed : {Z : Type 0} → List ℕ → List ℕ → State → State → Vec ℕ Z → Vec ℕ Z → List ℕ → Bool → Type 0
+-- a chunk after the text p of an unfinished line: its lines were answered, and q is kept of what is
+-- left, or the first of the lines were answered
+abbrev pub Fed : {Z : Type 0} → List ℕ → List ℕ → State → State → Vec ℕ Z → Vec ℕ Z → List ℕ
+    → Bool → Type 0
 Fed p chunk s t out out' q true = LinesAnswered (lines p chunk) s t out out' × (q ≡ kept (rest p chunk))
 Fed p chunk s t out out' q false = Stopped (lines p chunk) s t out out'
 
 -- a last line was answered, or, where it was not done for want of room and memory, nothing changed
-pub record Ended {Z : Type 0} (ls : List (List ℕ)) (s t : State) (out out' : Vec ℕ Z) (done : Bool) : Type 0 where
+pub record Ended {Z : Type 0} (ls : List (List ℕ)) (s t : State) (out out' : Vec ℕ Z) (done : Bool)
+    : Type 0 where
   pub answered : LinesAnswered (if done then ls else []) s t out out'
   pub stopped : done ≡ false → spare out < longest
 

@@ -51,20 +51,26 @@ fn call_in(code: Code, fields: &[u8]) -> Call
             let (number, _) = field(fields);
             Call::Cancel(u32::from_be_bytes(number))
         }
-        Code::Tell => Call::Tell(place_in(fields)),
+        Code::Tell => {
+            let (place, _) = place_in(fields);
+            Call::Tell(place)
+        }
     }
 }
 
-fn place_in(fields: &[u8]) -> Place
+// A place, and the fields after it.
+fn place_in(fields: &[u8]) -> (Place, &[u8])
     requires { 3 ≤ length fields.now }
-    ensures { result ≡ place_in fields.now }
+    ensures place { result.0 ≡ place_in fields.now }
+    ensures rest { result.1.now ≡ drop 3 fields.now }
 {
-    let ([side, kind, account], _) = field::<3>(fields);
-    Place {
+    let ([side, kind, account], fields) = field::<3>(fields);
+    let place = Place {
         side,
         kind,
         account,
-    }
+    };
+    (place, fields)
 }
 
 // A place and an amount.
@@ -73,13 +79,8 @@ fn payment_in(fields: &[u8]) -> (Place, u64)
     ensures place { result.0 ≡ place_in fields.now }
     ensures amount { result.1 ≡ number_at w64 3 fields.now }
 {
-    let ([side, kind, account], fields) = field::<3>(fields);
+    let (place, fields) = place_in(fields);
     let (amount, _) = field(fields);
-    let place = Place {
-        side,
-        kind,
-        account,
-    };
     (place, u64::from_be_bytes(amount))
 }
 

@@ -17,8 +17,8 @@ fn entry(c: u8) -> u8
     VALUES[c as usize]
 }
 
-// Stays: the customer names a table of 256 entries that one computed test compares with the rule of digits.
 // The number that each character stands for, 255 where it is no digit.
+// Stays: the customer names a table of 256 entries, with one computed test and one lemma.
 const VALUES: [u8; 256] = [
     255, 255, 255, 255, 255, 255, 255, 255, 255, 255, 255, 255, 255, 255, 255, 255, 255, 255, 255,
     255, 255, 255, 255, 255, 255, 255, 255, 255, 255, 255, 255, 255, 255, 255, 255, 255, 255, 255,

@@ -13,7 +13,8 @@ pub const MAX_FRAME: usize = 38;
 /// The bytes of one line.
 pub type Frame = ArrayVec<u8, MAX_FRAME>;
 
-/// The bytes of a line: none where it is too short or too long, or not all digits, or their number is odd.
+/// The bytes of a line: none where it is too short or too long, or not all digits, or their number
+/// is odd.
 pub fn unhex(line: &[u8]) -> Option<Frame>
     ensures { option_map frame_bytes result ≡ line_bytes line.now }
 {

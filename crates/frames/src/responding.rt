@@ -7,7 +7,8 @@ use crate::writing::{MAX_REPLY, reply_line};
 use book::Settlement;
 use std::alloc::AllocError;
 
-/// Answers a line over a book and appends the line of the answer. Want of memory stops it before anything is done.
+/// Answers a line over a book and appends the line of the answer. Want of memory stops it before
+/// anything is done.
 pub fn respond<B: Settlement>(
     book: &mut B,
     line: &[u8],

@@ -36,8 +36,8 @@ impl<B: Settlement> Session<B> {
         }
     }
 
-    /// Answers each line that ends in a chunk of text, and keeps what is left for the next one.
-    /// Where memory is wanting, the first of the lines are answered, and nothing is said of what is kept.
+    /// Answers each line that ends in a chunk of text, and keeps what is left for the next one. Where
+    /// memory is wanting, the first of the lines are answered, and nothing is said of what is kept.
     pub fn feed(&mut self, chunk: &[u8], out: &mut Vec<u8>) -> Result<(), AllocError>
         ensures feeds { Fed self.old.pending chunk.now
             (B.Settlement.state self.old.book) (B.Settlement.state self.new.book)

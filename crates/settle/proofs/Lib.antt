@@ -1,1 +1,1 @@
-pub mod Empties
+mod Beginning

@@ -1,1 +1,1 @@
-pub mod Empty
+pub mod Opening

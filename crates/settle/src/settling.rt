@@ -1,9 +1,9 @@
 //! The whole program, over any reader and writer.
 ghost use Rattle.std.specs.Prelude.{[], OnOk, IfSome};
 ghost use Rattle.std.specs.Io.KnownBytes.{Appends};
-ghost use Rattle.book.specs.Opening.{opened, opens_on};
+ghost use Rattle.book.specs.Opening.{opened};
 ghost use Rattle.frames.specs.Sessions.{answers, text_lines};
-ghost use Rattle.settle.specs.Empty.{nothing};
+ghost use Rattle.settle.specs.Opening.{from_nothing};
 
 use crate::opening::open;
 use frames::Session;
@@ -15,7 +15,7 @@ use std::io::{Read, Write};
 pub fn settle<R: Read, W: Write>(alloc: Global, input: &mut R, output: &mut W) -> io::Result<()>
     ensures { OnOk result (IfSome (R.remaining input.old) (λ text.
         Appends (W.contents output.old) (W.contents output.new)
-        (answers (opened (opens_on (nothing 4 8) (nothing 2 8) 0)) (text_lines [] text)))) }
+        (answers (opened from_nothing) (text_lines [] text)))) }
 {
     let mut session = Session::new(open(alloc)?);
     session.serve(alloc, input, output)

@@ -1,6 +1,6 @@
 -- Lines that are answered one after the other.
 use Rattle.std.proofs.Common.{◌≡◌, ℕ, suc, ◌-◌, ◌<◌, List, [], ◌∷◌, ◌++◌, length, take, drop, map, Ok, Err, vec_items, Result, Vec, Bool, true, false, sym, refl, ap, ◌∙◌, append_assoc, append-nil, add-one, arith, length-append}
-use Rattle.std.proofs.lemmas.List.{drop-drop, length-map, take_rest}
+use Rattle.std.proofs.lemmas.List.{drop-drop, length-map, map-append, take-append-drop, take-map, take_at, take_rest}
 use Rattle.fault.specs.declared.fault.Fault.{Fault}
 use Rattle.book.specs.Opening.{Opening}
 use Rattle.book.specs.State.{State}
@@ -13,7 +13,7 @@ use Rattle.frames.specs.Hex.{line_bytes}
 use Rattle.frames.specs.Replies.{after_line, after_said, answer_line, line_answer, said_answer}
 use Rattle.frames.specs.Sessions.{Ended, Fed, LinesAnswered, LinesLawful, after_lines, answers, events, last_line, lines, rest, said_event}
 use Rattle.frames.specs.Stream.{kept}
-use Rattle.frames.proofs.Chunks.{Newline, first_line, no_line}
+use Rattle.frames.proofs.Chunks.{Newline, first_line, no_line, texts_alike}
 
 -- ---- the law
 
@@ -71,6 +71,36 @@ answered_alike a b {s = s} e p =
 pub ended_alike : {Z : Type 0} (a b : List (List ℕ)) {s t : State} {out out' : Vec ℕ Z} (done : Bool) → map line_bytes a ≡ map line_bytes b → Ended a s t out out' done → Ended b s t out out' done
 ended_alike a b true e p = record { answered = answered_alike a b e p.answered; stopped = p.stopped }
 ended_alike a b false e p = record { answered = p.answered; stopped = p.stopped }
+
+-- ---- what is promised of the characters that are kept holds of each text of which they are kept
+
+same_first : {X Y : Type 0} (f : X → Y) (first others all : List X) → map f (first ++ others) ≡ map f all → map f first ≡ map f (take (length first) all)
+same_first f first others all e =
+    let first_of : take (length first) (map f first ++ map f others) ≡ map f first = take_at (map f first) (map f others) (length first) (length-map first f) in
+    sym first_of ∙ ap (take (length first)) (sym (map-append f first others) ∙ e) ∙ take-map f (length first) all
+
+pub fed_whole : {Z : Type 0} (p chunk q : List ℕ) (s t : State) (out out' : Vec ℕ Z) (done : Bool) → Fed (kept p) chunk s t out out' q done → Fed p chunk s t out out' q done
+fed_whole p chunk q s t out out' true (answered, keeps) =
+    let (said, left, last) = texts_alike p chunk in
+    (answered_alike (lines (kept p) chunk) (lines p chunk) said answered, keeps ∙ left)
+fed_whole p chunk q s t out out' false fed =
+    let (said, left, last) = texts_alike p chunk in
+    let first = take (length fed.first) (lines p chunk) in
+    let others = drop (length fed.first) (lines p chunk) in
+    let same = same_first line_bytes fed.first fed.others (lines p chunk) (ap (map line_bytes) (sym fed.all) ∙ said) in
+    let long : length (lines (kept p) chunk) ≡ length (lines p chunk) = sym (length-map _ line_bytes) ∙ ap length said ∙ length-map _ line_bytes in
+    record {
+      first = first;
+      others = others;
+      all = sym (take-append-drop (length fed.first) (lines p chunk));
+      answered = answered_alike fed.first first same fed.answered;
+      stopped = rw long at fed.stopped;
+    }
+
+pub ended_whole : {Z : Type 0} (p : List ℕ) {s t : State} {out out' : Vec ℕ Z} (done : Bool) → Ended (last_line (kept p)) s t out out' done → Ended (last_line p) s t out out' done
+ended_whole p done ended =
+    let (said, left, last) = texts_alike p [] in
+    ended_alike (last_line (kept p)) (last_line p) done last ended
 
 pub last_is : (p : List ℕ) → 0 < length p → last_line p ≡ p ∷ []
 last_is [] h = absurd (omega arith)

@@ -23,7 +23,7 @@ leg_fits Securities m h = record { from = grind (arith, nat_tests); to = grind (
 leg_fits Cash m h = record { from = grind (arith, nat_tests); to = grind (arith, nat_tests); amount = grind (arith, nat_tests) }
 
 -- what a place has after one more change
-signed_near : (legs : ℕ) (inside : Bool) (brought taken : ℕ) (x y : ℤ) → brought ≤ MAX_MOVED → taken ≤ MAX_MOVED → IsNear legs x → y ≡ x +ℤ signed inside (pos brought -ℤ pos taken) → IsNear (legs + 1) y
+signed_near : (legs : ℕ) (inside : Bool) (brought taken : ℕ) (x y : ℤ) → brought ≤ most_moved → taken ≤ most_moved → IsNear legs x → y ≡ x +ℤ signed inside (pos brought -ℤ pos taken) → IsNear (legs + 1) y
 signed_near legs true brought taken x y b t near e = record { above = omega (arith, ints, near.above); below = omega (arith, ints, near.below) }
 signed_near legs false brought taken x y b t near e = record { above = omega (arith, ints, near.above); below = omega (arith, ints, near.below) }
 

@@ -10,7 +10,8 @@ use std::marker::Model;
 /// and no kind's sum passes the limit.
 #[derive(Drop)]
 pub struct Book<S: Register, C: Register> {
-    // the opening question that failed, if one did
+    // The opening question that failed, if one did.
+    // Stays: the new form is no plainer: it is no result of a call, but what every call answers.
     pub(crate) failed: Option<Fault>,
     pub(crate) daybook: Daybook,
     pub(crate) securities: S,

@@ -103,7 +103,8 @@ impl Fault {
 }
 
 /// A register's refusal passes up as it is, by the register's own number.
-// Stays: what thiserror's `#[from]` writes has no contract, so the check would not know which fault a `?` gives.
+// Stays: the new form is no plainer: a derived conversion makes a variant that holds the refusal,
+// which could have no number, and has no contract by which a `?` is known to give it.
 impl From<Refusal> for Fault {
     ghost from_gives = { λ refusal f. f ≡ passed_up refusal };
 

@@ -18,7 +18,8 @@ fn entry(c: u8) -> u8
 }
 
 // The number that each character stands for, 255 where it is no digit.
-// Stays: the customer names a table of 256 entries, with one computed test and one lemma.
+// Stays: a rule of the project: a table with one computed test and one lemma for every character
+// (docs/DECISIONS.md, language forms).
 const VALUES: [u8; 256] = [
     255, 255, 255, 255, 255, 255, 255, 255, 255, 255, 255, 255, 255, 255, 255, 255, 255, 255, 255,
     255, 255, 255, 255, 255, 255, 255, 255, 255, 255, 255, 255, 255, 255, 255, 255, 255, 255, 255,

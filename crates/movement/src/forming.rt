@@ -48,6 +48,7 @@ pub fn form(terms: &Terms, class: Class, trade: Trade) -> Result<Movement, Fault
 {
     let seller = party(terms, trade.seller)?;
     let buyer = party(terms, trade.buyer)?;
+    // Stays: the new form is no plainer: a conversion from the trade alone could not know the parties.
     Ok(Movement {
         number: trade.number,
         class,

@@ -9,7 +9,8 @@ pub struct Movement {
     pub class: Class,
     pub security: u8,
     pub quantity: u64,
-    // Stays: the number of a kind of the cash register, as the security is of the other; an enum would ask more of callers.
+    // Stays: the new form is no plainer: this is the number of a kind of the cash register, as the
+    // security is of the other, and netting answers its callers for any.
     pub currency: u8,
     pub sum: u64,
     /// The day of settlement.
@@ -17,6 +18,6 @@ pub struct Movement {
     pub seller: Party,
     pub buyer: Party,
     /// Whether it became ready this afternoon.
-    // Stays: a plain yes or no; that it is ready follows from the two consents.
+    // Stays: the new form is no plainer: that it is ready follows from the two consents already.
     pub late: bool,
 }

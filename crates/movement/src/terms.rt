@@ -21,7 +21,8 @@ pub struct MemberRow {
 pub struct Terms {
     // how many accounts the book has; those from 1 on are participants
     accounts: u8,
-    // Stays: rows of fixed size, by member and category, are the form that was asked for, and want no memory.
+    // Stays: a rule of the project: rows of fixed size in a plain struct, which want no memory
+    // (docs/DECISIONS.md, language forms).
     rows: [MemberRow; MEMBERS],
     // every custodian that is set is a participant
     ghost fit: { TermsFit accounts (agreed_in rows) },
@@ -32,7 +33,7 @@ pub struct Terms {
 pub struct Setting {
     pub member: u8,
     /// A letter.
-    // Stays: any letter is asked about, in its turn.
+    // Stays: a rule of the project: a caller may give any letter, which is asked about in its turn.
     pub category: u8,
     pub securities: u8,
     pub cash: u8,
@@ -92,7 +93,7 @@ impl Terms {
     }
 
     /// The custodians of securities and of cash for a member's category, of main where it was never set.
-    // Stays: the pair of both custodians is the form that was asked for.
+    // Stays: a rule of the project: the lookup answers a pair (docs/DECISIONS.md, language forms).
     pub fn look_up(&self, member: u8, category: Category) -> Option<(u8, u8)>
         ensures terms { result ≡ lookup (agreed self.now) member category }
         ensures participants { agreed_fits (accounts_of self.now) result ≡ true }

@@ -5,7 +5,7 @@
 pub struct TradeSide {
     pub member: u8,
     /// A letter.
-    // Stays: any letter is asked about, in its turn.
+    // Stays: a rule of the project: a caller may give any letter, which is asked about in its turn.
     pub category: u8,
     /// Blank, or the participant that acts for the side this once.
     pub clearing: [u8; 4],
@@ -16,11 +16,11 @@ pub struct TradeSide {
 pub struct Trade {
     pub number: u32,
     /// A letter.
-    // Stays: any letter is asked about, in its turn.
+    // Stays: a rule of the project: a caller may give any letter, which is asked about in its turn.
     pub class: u8,
     pub security: u8,
     pub quantity: u64,
-    // Stays: any number is asked about, in its turn.
+    // Stays: a rule of the project: a caller may give any number, which is asked about in its turn.
     pub currency: u8,
     pub sum: u64,
     /// The day of settlement.

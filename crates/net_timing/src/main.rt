@@ -20,6 +20,8 @@ fn count(package: &Package) -> Option<u64> {
 // How many settle over all turns, each of them computed anew.
 fn total(mut package: Package, turns: u32) -> Option<u64> {
     let mut settled = 0u64;
+    // Stays: the new form is no plainer: a turn alters the package, settles it and may be refused,
+    // which one closure of a chain would have to do.
     for turn in 0..turns {
         package.turn(turn);
         settled = settled.saturating_add(count(&package)?);
@@ -34,8 +36,10 @@ fn run(rt: &HostRuntime) -> anyhow::Result<()> {
         return Err(anyhow!("{USAGE}"));
     };
     let turns = turns.as_str().parse::<u32>()?;
-    let Some(package) = Package::of(case.as_str()) else {
-        return Err(anyhow!("{USAGE}"));
+    let package = match case.as_str() {
+        "worst" => Package::worst(),
+        "full" => Package::full(),
+        _ => return Err(anyhow!("{USAGE}")),
     };
     let Some(settled) = total(package, turns) else {
         return Err(anyhow!("the package is not within the limits"));

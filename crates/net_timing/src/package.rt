@@ -7,6 +7,7 @@ use std::array;
 const PLENTY: u64 = 1_000_000;
 
 /// The movements of a case, all tried, and what each place holds.
+// Stays: a rule of the project: what netting takes is in arrays of fixed size, by movement and place.
 #[derive(Clone, Copy)]
 pub struct Package {
     pub movements: [Movement; MOVEMENTS],
@@ -68,8 +69,8 @@ fn full_movement(i: u8) -> Movement {
 }
 
 impl Package {
-    // Account 31 has no euro: all are struck for the last place, and none can rejoin.
-    fn worst() -> Package {
+    /// Account 31 has no euro: all are struck for the last place, and none can rejoin.
+    pub fn worst() -> Package {
         let mut amounts = [PLENTY; PLACES];
         amounts[place_of(Side::Cash, 1, 31)] = 0;
         Package {
@@ -78,20 +79,11 @@ impl Package {
         }
     }
 
-    // Nothing is short: all settle.
-    fn full() -> Package {
+    /// Nothing is short: all settle.
+    pub fn full() -> Package {
         Package {
             movements: array::from_fn(|i| full_movement(i as u8)),
             amounts: [PLENTY; PLACES],
-        }
-    }
-
-    /// The package of a case.
-    pub fn of(case: &str) -> Option<Package> {
-        match case {
-            "worst" => Some(Package::worst()),
-            "full" => Some(Package::full()),
-            _ => None,
         }
     }
 

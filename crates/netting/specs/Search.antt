@@ -6,6 +6,8 @@ abbrev pub or_at : Option ℕ → Bool → ℕ → Option ℕ
 or_at (Some i) passes n = Some i
 or_at None passes n = cond passes (Some n) None
 
+-- Stays: the new form is no plainer: what is searched are numbers and not the elements of a list, and the library's
+-- `find` over a range of them says no less.
 -- the lowest number below n that passes
 abbrev pub first_below : ℕ → (ℕ → Bool) → Option ℕ
 first_below zero passes = None
@@ -31,6 +33,7 @@ FindsLast n passes found =
     MatchOption found ((k : ℕ) → k < n → passes k ≡ false) (λ i. (i < n) × (passes i ≡ true) × ((k : ℕ) → k < n → i < k → passes k ≡ false))
 
 -- a step taken n times
+-- Stays: the new form is no plainer: the theorem that strikes end says how many steps it takes.
 abbrev pub times : {X : Type 0} → ℕ → (X → X) → X → X
 times zero step x = x
 times (suc n) step x = times n step (step x)

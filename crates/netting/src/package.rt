@@ -19,6 +19,8 @@ use std::marker::Model;
 
 /// The movements, the amounts of all places, who is tried and who is inside, with what places have
 /// after posting those.
+// Stays: a rule of the project: nothing here may want memory, so marks and amounts are arrays of
+// fixed size, by movement and by place.
 #[derive(Drop)]
 pub struct Package<'a> {
     movements: &'a [Movement],

@@ -3,6 +3,7 @@
 // and specs/Cases.antt would be rows of nine bare numbers, each made a movement by either.
 use crate::{MOVEMENTS, PLACES, place_of, position, settling};
 use movement::{Class, Movement, Party, Side};
+use std::array;
 use std::test::Fail;
 
 // The accounts of a movement: giver, receiver, payer, payee.
@@ -191,11 +192,7 @@ fn one_movement(rt: HostRuntime) -> Result<(), Fail> {
 
 // Rising numbers from 1, one piece for one unit of litas from account 1 to account 2.
 fn many() -> [Movement; MOVEMENTS] {
-    let mut movements = [trade(1, 1, 1, 1, 2); MOVEMENTS];
-    for i in 0..MOVEMENTS {
-        movements[i].number = i as u32 + 1;
-    }
-    movements
+    array::from_fn(|i| trade(i as u32 + 1, 1, 1, 1, 2))
 }
 
 #[test]

@@ -37,6 +37,8 @@ abbrev pub moved : Holdings → ℕ → ℕ → ℕ → ℕ → Holdings
 moved h k from to n = cond (from == to) h (raised (lowered h k from n) k to n)
 
 -- f 0 + f 1 + .. + f (n - 1)
+-- Stays: the new form is no plainer: what netting proves of a sum goes by its last term, where that of a range, as in
+-- `total`, goes by its first.
 abbrev pub sum_below : ℕ → (ℕ → ℕ) → ℕ
 sum_below zero f = 0
 sum_below (suc n) f = sum_below n f + f n

@@ -64,6 +64,8 @@ impl<S: Register, C: Register> Register for Joined<S, C> {
             return 0;
         }
         let first = self.first.kinds();
+        // Stays: the new form is no plainer: the two registers are of two types, so no value or
+        // closure can stand for either.
         if kind < first {
             self.first.tell(kind, account)
         } else {
@@ -82,6 +84,7 @@ impl<S: Register, C: Register> Register for Joined<S, C> {
     {
         self.ask_known(kind, account)?;
         let first = self.first.kinds();
+        // Stays: the new form is no plainer, as in `tell`.
         if kind < first {
             self.first.enter(kind, account, entry)
         } else {

@@ -1,11 +1,11 @@
 -- The first movement of a number.
-use Rattle.std.proofs.Common.{◌≡◌, ℕ, ◌<◌, ◌≤◌, true, cond, List, [], ◌∷◌, length, get_or, set, is_some, Some, None, Ok, Option, sym, ap, ◌∙◌, ⊎_elim, arith}
+use Rattle.std.proofs.Common.{◌≡◌, ℕ, true, cond, List, [], ◌∷◌, length, get_or, set, is_some, Some, None, Ok, Option, sym, refl, ap, ◌∙◌, arith}
 use Rattle.std.proofs.lemmas.Bool.{lt-ltb}
 use Rattle.std.proofs.lemmas.List.{length-set}
 use Rattle.std.proofs.lemmas.List.Folds.{find_at}
 use Rattle.std.proofs.lemmas.List.Quantifiers.{position-Some}
 use Rattle.std.proofs.lemmas.List.Sums.{position_or_len_is}
-use Rattle.std.proofs.lemmas.Option.{slice_get-get_or, slice_get_cases, none-some}
+use Rattle.std.proofs.lemmas.Option.{slice_get-get_or, slice_get_within, none-some}
 use Rattle.std.specs.List.{position, slice_get}
 use Rattle.std.specs.Option.{MatchOption, option_map_or}
 use Rattle.fault.specs.declared.fault.Fault.TheVariants.{NotOnBook, NoDuty, AlreadyConsented}
@@ -38,11 +38,12 @@ found_at (m ∷ ms) n i e =
 
 none_found : (ms : List Movement) (n : ℕ) → position (has_number n) ms ≡ None → on_book n ms ≡ None
 none_found ms n e =
-    ⊎_elim
-    (λ (q : (x : Movement) × (place_of n ms < length ms) × (slice_get ms (place_of n ms) ≡ Some x) × (get_or ms (place_of n ms) x ≡ x)).
-    absurd (none-some (place_of n ms) (sym e ∙ ap (λ b. cond b (Some (place_of n ms)) None) (lt-ltb (place_of n ms) (length ms) q.1))))
-    (λ (q : (length ms ≤ place_of n ms) × (slice_get ms (place_of n ms) ≡ None)). find_at (has_number n) ms ∙ q.1)
-    (slice_get_cases ms (place_of n ms)).1
+    elim (on_book n ms) as (λ o. on_book n ms ≡ o → o ≡ None) [
+      | None ↦ λ found. refl
+      | Some m ↦ λ found.
+          let within = slice_get_within ms (place_of n ms) m (sym (find_at (has_number n) ms) ∙ found) in
+          absurd (none-some (place_of n ms) (sym e ∙ ap (λ b. cond b (Some (place_of n ms)) None) (lt-ltb (place_of n ms) (length ms) within)))
+    ] refl
 
 -- what the place of a number tells
 pub found_by : (ms : List Movement) (n : ℕ) (r : Option ℕ) → r ≡ position (has_number n) ms → MatchOption r (on_book n ms ≡ None) (FoundAt ms n)

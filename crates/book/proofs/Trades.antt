@@ -8,7 +8,8 @@ use Rattle.fault.proofs.Asking.{all_hold, asked_stops, asked_goes, asked_fault, 
 use Rattle.movement.specs.declared.class.Class.{Class}
 use Rattle.movement.specs.declared.movement.Movement.{Movement}
 use Rattle.movement.specs.declared.trade.Trade.{Trade}
-use Rattle.movement.specs.Bounds.{TermsFit, from_one_to, most_traded, movement_fits, party_fits}
+use Rattle.movement.specs.Bounds.{TermsFit, from_one_to, movement_fits, party_fits}
+use Rattle.movement.specs.Limits.{most_moved}
 use Rattle.movement.specs.Forming.{movement_of, side_questions}
 use Rattle.movement.proofs.Fitting.{party_fit}
 use Rattle.book.specs.Daily.{Daily, basic_questions, both_sides, room_left, trade_questions, class_known, traded}
@@ -57,9 +58,9 @@ trade_fits d t fit passed =
     let buyer = party_fit d.accounts d.terms t.buyer fit each.1 in
     and_from (leb 1 t.number) _ (and_parts (leb 1 t.number) (ltb d.highest t.number) basic.0).0
     (and_from (ltb t.security d.kinds) _ basic.1.1.0
-    (and_from (from_one_to most_traded t.quantity) _ basic.1.1.1.0
+    (and_from (from_one_to most_moved t.quantity) _ basic.1.1.1.0
     (and_from (ltb t.currency 2) _ basic.1.1.1.1.0
-    (and_from (from_one_to most_traded t.sum) _ basic.1.1.1.1.1.0
+    (and_from (from_one_to most_moved t.sum) _ basic.1.1.1.1.1.0
     (and_from (party_fits d.accounts m.seller) (party_fits d.accounts m.buyer) seller buyer)))))
 
 -- .. of a number above every one before

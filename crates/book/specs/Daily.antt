@@ -6,15 +6,14 @@ use Rattle.fault.specs.declared.fault.Fault.TheVariants.{TradeNumber, UnknownCla
 use Rattle.fault.specs.Questions.{Question, ask}
 use Rattle.movement.specs.declared.class.Class.{Class}
 use Rattle.movement.specs.declared.class.Class.TheVariants.{Central}
-use Rattle.movement.specs.declared.limits.TheConstants.{CURRENCIES, MAX_MOVEMENTS}
 use Rattle.movement.specs.declared.half.Half.{Half}
 use Rattle.movement.specs.declared.movement.Movement.{Movement}
 use Rattle.movement.specs.declared.terms.Setting.{Setting}
 use Rattle.movement.specs.declared.trade.Trade.{Trade}
-use Rattle.book.specs.declared.daybook.TheConstants.{LONGEST_WAIT}
 use Rattle.movement.specs.Letters.{class_of}
 use Rattle.movement.specs.Agreed.{Agreed}
-use Rattle.movement.specs.Bounds.{from_one_to, most_traded}
+use Rattle.movement.specs.Bounds.{from_one_to}
+use Rattle.movement.specs.Limits.{currencies, most_moved, most_movements}
 use Rattle.movement.specs.Settings.{terms_after}
 use Rattle.movement.specs.Forming.{side_questions, movement_of}
 use Rattle.movement.specs.Consents.{has_duty, silent, consented, is_afternoon}
@@ -40,16 +39,20 @@ with_agreed d t = record d { terms = t }
 abbrev pub with_movements : Daily → ℕ → List Movement → Daily
 with_movements d n ms = record d { highest = n; movements = ms }
 
+-- how far ahead a trade can settle
+abbrev pub longest_wait : ℕ
+longest_wait = 30
+
 -- what is asked of a trade before its sides
 abbrev pub basic_questions : Daily → Trade → List Question
 basic_questions d t =
     ask (nat_le 1 t.number && nat_lt d.highest t.number) TradeNumber
     ∷ (ask (is_some (class_of t.class)) UnknownClass
     ∷ (ask (nat_lt t.security d.kinds) UnknownSecurity
-    ∷ (ask (from_one_to most_traded t.quantity) QuantityRange
-    ∷ (ask (nat_lt t.currency CURRENCIES) UnknownCurrency
-    ∷ (ask (from_one_to most_traded t.sum) TradeSum
-    ∷ (ask (nat_le d.day t.day && nat_le t.day (d.day + LONGEST_WAIT)) SettlementDay
+    ∷ (ask (from_one_to most_moved t.quantity) QuantityRange
+    ∷ (ask (nat_lt t.currency currencies) UnknownCurrency
+    ∷ (ask (from_one_to most_moved t.sum) TradeSum
+    ∷ (ask (nat_le d.day t.day && nat_le t.day (d.day + longest_wait)) SettlementDay
     ∷ []))))))
 
 -- the seller's questions, then the buyer's
@@ -57,7 +60,7 @@ abbrev pub both_sides : Daily → Trade → List Question
 both_sides d t = side_questions d.terms d.accounts t.seller ++ side_questions d.terms d.accounts t.buyer
 
 abbrev pub room_left : Daily → List Question
-room_left d = ask (nat_lt (length d.movements) MAX_MOVEMENTS) BookFull ∷ []
+room_left d = ask (nat_lt (length d.movements) most_movements) BookFull ∷ []
 
 abbrev pub trade_questions : Daily → Trade → List Question
 trade_questions d t = basic_questions d t ++ (both_sides d t ++ room_left d)

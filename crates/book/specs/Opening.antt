@@ -5,8 +5,7 @@ use Rattle.std.specs.Result.{result_unwrap_or}
 use Rattle.register.specs.Holdings.{Holdings, limit, total}
 use Rattle.fault.specs.declared.fault.Fault.TheVariants.{AccountCount, KindCount, OpeningSum, FirstDay}
 use Rattle.fault.specs.declared.fault.Fault.{Fault}
-use Rattle.movement.specs.declared.limits.TheConstants.{MAX_ACCOUNTS, MAX_SECURITIES, CURRENCIES}
-use Rattle.book.specs.declared.opening.TheConstants.{LAST_DAY}
+use Rattle.movement.specs.Limits.{most_accounts, most_securities, currencies}
 use Rattle.movement.specs.declared.half.Half.TheVariants.{Morning}
 use Rattle.movement.specs.Agreed.{none_agreed}
 use Rattle.book.specs.Daily.{Daily}
@@ -26,24 +25,28 @@ opens_on securities cash day = record { securities = securities; cash = cash; da
 abbrev pub sums_within : Holdings → Bool
 sums_within h = list_all (λ k. nat_le (total h k) limit) (range_with_len 0 h.kinds)
 
+-- the last day on which a book can open
+abbrev pub last_day : ℕ
+last_day = 60000
+
 -- from 2 to 32 accounts, as many in both registers
 abbrev pub accounts_fit : Opening → Bool
 accounts_fit o =
     o.securities.accounts == o.cash.accounts
-    && (nat_le 2 o.securities.accounts && nat_le o.securities.accounts MAX_ACCOUNTS)
+    && (nat_le 2 o.securities.accounts && nat_le o.securities.accounts most_accounts)
 
 -- from 1 to 16 securities, and 2 currencies
 abbrev pub kinds_fit : Opening → Bool
 kinds_fit o =
     nat_le 1 o.securities.kinds
-    && (nat_le o.securities.kinds MAX_SECURITIES && o.cash.kinds == CURRENCIES)
+    && (nat_le o.securities.kinds most_securities && o.cash.kinds == currencies)
 
 abbrev pub opening_questions : Opening → List Question
 opening_questions o =
     ask (accounts_fit o) AccountCount
     ∷ (ask (kinds_fit o) KindCount
     ∷ (ask (sums_within o.securities && sums_within o.cash) OpeningSum
-    ∷ (ask (nat_le o.day LAST_DAY) FirstDay
+    ∷ (ask (nat_le o.day last_day) FirstDay
     ∷ [])))
 
 -- the first question that is answered no

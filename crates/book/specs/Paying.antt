@@ -7,7 +7,7 @@ use Rattle.register.specs.declared.entry.Entry.{Entry}
 use Rattle.register.specs.declared.entry.Entry.TheVariants.{Put, Take}
 use Rattle.fault.specs.declared.fault.Fault.{Fault}
 use Rattle.fault.specs.declared.fault.Fault.TheVariants.{UnknownSide, UnknownKind, UnknownAccount, AmountRange, SumRange, HoldsLess}
-use Rattle.movement.specs.declared.limits.TheConstants.{MAX_MOVED}
+use Rattle.movement.specs.Limits.{most_moved}
 use Rattle.movement.specs.Bounds.{from_one_to}
 use Rattle.book.specs.declared.place.Place.{Place}
 use Rattle.book.specs.State.{State, holdings, with_holdings}
@@ -34,7 +34,7 @@ amount_of (Put n) = n
 amount_of (Take n) = n
 
 abbrev pub amount_fits : ℕ → Question
-amount_fits n = ask (from_one_to MAX_MOVED n) AmountRange
+amount_fits n = ask (from_one_to most_moved n) AmountRange
 
 -- the kind's sum stays within the limit, and no more is taken than the account holds
 abbrev pub entry_fits : Holdings → Place → Entry → Question

@@ -1,7 +1,7 @@
 -- What the questions of a passed opening go on to say of a book.
 use Rattle.std.specs.Prelude.{◌≡◌, ℕ, ◌<◌, ◌≤◌, None}
 use Rattle.register.specs.Holdings.{Holdings, limit, total}
-use Rattle.movement.specs.declared.limits.TheConstants.{MAX_ACCOUNTS, MAX_SECURITIES, CURRENCIES}
+use Rattle.movement.specs.Limits.{most_accounts, most_securities, currencies}
 use Rattle.book.specs.State.{State}
 
 -- no kind's sum over all accounts passes the limit
@@ -17,11 +17,11 @@ pub record FitsBook (accounts kinds : ℕ) (h : Holdings) : Type 0 where
 -- a book of so many accounts and securities, and its registers
 pub record IsOpen (accounts kinds : ℕ) (securities cash : Holdings) : Type 0 where
   pub some_accounts : 2 ≤ accounts
-  pub few_accounts : accounts ≤ MAX_ACCOUNTS
+  pub few_accounts : accounts ≤ most_accounts
   pub some_kinds : 1 ≤ kinds
-  pub few_kinds : kinds ≤ MAX_SECURITIES
+  pub few_kinds : kinds ≤ most_securities
   pub securities_fit : FitsBook accounts kinds securities
-  pub cash_fits : FitsBook accounts CURRENCIES cash
+  pub cash_fits : FitsBook accounts currencies cash
 
 -- the opening failed, or what it asked still holds
 abbrev pub Sound : State → Type 0

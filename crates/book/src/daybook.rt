@@ -34,7 +34,7 @@ impl Daybook {
     ghost use Rattle.std.specs.Prelude.{◌<◌, is_ok, None, position, MatchOption};
     ghost use Rattle.arrayvec.specs.ArrayVec.{array_vec_len};
     ghost use Rattle.fault.specs.Questions.{asked};
-    ghost use Rattle.movement.specs.declared.limits.TheConstants.{MAX_MOVEMENTS};
+    ghost use Rattle.movement.specs.Limits.{most_movements};
     ghost use Rattle.book.specs.Books.{daily_of};
     ghost use Rattle.book.specs.Daily.{basic_questions, trade_questions, class_known, traded};
     ghost use Rattle.book.specs.Daily.{cancellable, has_number, on_book};
@@ -92,7 +92,7 @@ impl Daybook {
     fn formed(&self, trade: Trade) -> Result<Movement, Fault>
         ensures formed { result ≡ asked (trade_questions (daily_of self.now) trade)
             (traded (daily_of self.now) trade) }
-        ensures room { is_ok result ≡ true → array_vec_len self.now.movements < MAX_MOVEMENTS }
+        ensures room { is_ok result ≡ true → array_vec_len self.now.movements < most_movements }
     {
         let class = self.class_of(trade)?;
         let movement = form(&self.terms, class, trade)?;

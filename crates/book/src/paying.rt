@@ -1,7 +1,7 @@
 //! Paying into and out of one register.
 ghost use Rattle.std.specs.Prelude.{◌≡◌};
 ghost use Rattle.fault.specs.Questions.{asked, passes};
-ghost use Rattle.movement.specs.declared.limits.TheConstants.{MAX_MOVED};
+ghost use Rattle.movement.specs.Limits.{most_moved};
 ghost use Rattle.movement.specs.Bounds.{from_one_to};
 ghost use Rattle.book.specs.Paying.{amount_of, inquiry_questions, payment_questions, Pays};
 
@@ -42,7 +42,7 @@ pub fn pay<R: Register>(register: &mut R, place: Place, entry: Entry) -> Result<
 
 /// Whether an amount may be moved at once: it is from 1 to 10^12.
 pub fn is_movable(amount: u64) -> bool
-    ensures { result ≡ from_one_to MAX_MOVED amount }
+    ensures { result ≡ from_one_to most_moved amount }
 {
     amount >= 1 && amount <= MAX_MOVED
 }

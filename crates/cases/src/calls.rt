@@ -1,25 +1,27 @@
-// The calls that the tests make.
+//! The calls that the tests make.
 use book::Place;
 use history::Call;
-use movement::{Setting, Trade, TradeSide};
+use movement::{Setting, Side, Trade, TradeSide};
 
+fn place(side: Side, kind: u8, account: u8) -> Place {
+    Place {
+        side: side as u8,
+        kind,
+        account,
+    }
+}
+
+/// Where a security of an account stands.
 pub fn shares(kind: u8, account: u8) -> Place {
-    Place {
-        side: 0,
-        kind,
-        account,
-    }
+    place(Side::Securities, kind, account)
 }
 
+/// Where a currency of an account stands.
 pub fn money(kind: u8, account: u8) -> Place {
-    Place {
-        side: 1,
-        kind,
-        account,
-    }
+    place(Side::Cash, kind, account)
 }
 
-// The terms of a member for a category, by its letter.
+/// The terms of a member for a category, by its letter.
 pub fn terms(member: u8, category: u8, securities: u8, cash: u8) -> Call {
     Call::Terms(Setting {
         member,
@@ -29,7 +31,8 @@ pub fn terms(member: u8, category: u8, securities: u8, cash: u8) -> Call {
     })
 }
 
-fn client(member: u8) -> TradeSide {
+/// A client of a member, with a blank clearing field.
+pub fn client(member: u8) -> TradeSide {
     TradeSide {
         member,
         category: b'C',
@@ -37,7 +40,7 @@ fn client(member: u8) -> TradeSide {
     }
 }
 
-// A client of member 1 sells one share to a client of member 2 for one cent, today.
+/// A client of member 1 sells one share to a client of member 2 for one cent, today.
 pub fn numbered(number: u32) -> Trade {
     Trade {
         number,
@@ -52,7 +55,16 @@ pub fn numbered(number: u32) -> Trade {
     }
 }
 
-// .. by its call.
+/// The call of that trade.
 pub fn trade(number: u32) -> Call {
     Call::Trade(numbered(number))
+}
+
+/// The call of that trade with a change.
+pub fn changed<F: FnOnce(&mut Trade)>(number: u32, change: F) -> Call
+    requires { F.IsAlwaysCallable change }
+{
+    let mut trade = numbered(number);
+    change(&mut trade);
+    Call::Trade(trade)
 }

@@ -1,90 +1,92 @@
-// The first and the last of what is taken, and what lies beyond.
-use crate::building::{Depository, compare, expect, opened, opened_on};
-use crate::calls::{money, numbered, shares, terms};
-use crate::changes::{Change, Field, changed};
+//! The first and the last of what is taken, and what lies beyond.
+use crate::building::{compare, expect, opened, opened_on};
+use crate::calls::{changed, client, money, shares, terms};
 use history::Call;
+use movement::TradeSide;
 use std::test::Fail;
 
 const MOST: u64 = 1_000_000_000_000;
 
-// Trades 1, 2 and on, each with a change, and the number of its answer.
-fn compare_changed(book: &mut Depository, cases: &[(Change, u8)]) -> Result<(), Fail> {
-    for (number, (change, expected)) in (1..=99).zip(cases.iter()) {
-        let call = Call::Trade(changed(numbered(number), *change));
-        expect(book, call, *expected)?;
-    }
-    Ok(())
-}
-
 #[test]
 fn a_trade_is_taken_within_its_edges(rt: HostRuntime) -> Result<(), Fail> {
     let cases = [
-        (Change::Class(b'D'), 0),
-        (Change::Class(b'c'), 21),
-        (Change::Security(3), 0),
-        (Change::Security(4), 22),
-        (Change::Quantity(0), 23),
-        (Change::Quantity(MOST), 0),
-        (Change::Quantity(MOST + 1), 23),
-        (Change::Currency(1), 0),
-        (Change::Currency(2), 24),
-        (Change::Sum(0), 25),
-        (Change::Sum(MOST), 0),
-        (Change::Sum(MOST + 1), 25),
-        (Change::Day(30), 0),
-        (Change::Day(31), 26),
-        (Change::Number(0), 20),
-        (Change::Number(u32::MAX), 0),
-        (Change::Number(u32::MAX), 20),
+        (changed(1, |t| t.class = b'D'), 0),
+        (changed(2, |t| t.class = b'c'), 21),
+        (changed(3, |t| t.security = 3), 0),
+        (changed(4, |t| t.security = 4), 22),
+        (changed(5, |t| t.quantity = 0), 23),
+        (changed(6, |t| t.quantity = MOST), 0),
+        (changed(7, |t| t.quantity = MOST + 1), 23),
+        (changed(8, |t| t.currency = 1), 0),
+        (changed(9, |t| t.currency = 2), 24),
+        (changed(10, |t| t.sum = 0), 25),
+        (changed(11, |t| t.sum = MOST), 0),
+        (changed(12, |t| t.sum = MOST + 1), 25),
+        (changed(13, |t| t.day = 30), 0),
+        (changed(14, |t| t.day = 31), 26),
+        (changed(15, |t| t.number = 0), 20),
+        (changed(16, |t| t.number = u32::MAX), 0),
+        (changed(17, |t| t.number = u32::MAX), 20),
     ];
-    compare_changed(&mut opened(rt.alloc())?, &cases)
+    compare(&mut opened(rt.alloc())?, &cases)
 }
 
 #[test]
 fn a_trade_settles_within_30_days_of_the_latest_opening(rt: HostRuntime) -> Result<(), Fail> {
     let cases = [
-        (Change::Day(59_999), 26),
-        (Change::Day(60_000), 0),
-        (Change::Day(60_030), 0),
-        (Change::Day(60_031), 26),
-        (Change::Day(u16::MAX), 26),
+        (changed(1, |t| t.day = 59_999), 26),
+        (changed(2, |t| t.day = 60_000), 0),
+        (changed(3, |t| t.day = 60_030), 0),
+        (changed(4, |t| t.day = 60_031), 26),
+        (changed(5, |t| t.day = u16::MAX), 26),
     ];
-    compare_changed(&mut opened_on(rt.alloc(), 60_000)?, &cases)
+    compare(&mut opened_on(rt.alloc(), 60_000)?, &cases)
+}
+
+// A client of a member, with a change.
+fn changed_side<F: FnOnce(&mut TradeSide)>(member: u8, change: F) -> TradeSide
+    requires { F.IsAlwaysCallable change }
+{
+    let mut side = client(member);
+    change(&mut side);
+    side
+}
+
+// What a side of a trade may be, and what it may not, by a client of a member.
+fn sides(member: u8) -> [(TradeSide, u8); 21] {
+    [
+        (changed_side(member, |s| s.category = b'O'), 0),
+        (changed_side(member, |s| s.category = b'M'), 0),
+        (changed_side(member, |s| s.category = b'I'), 0),
+        (changed_side(member, |s| s.category = b'-'), 0),
+        (changed_side(member, |s| s.category = b' '), 28),
+        (changed_side(member, |s| s.member = 0), 27),
+        (changed_side(member, |s| s.member = 3), 27),
+        (changed_side(member, |s| s.member = 17), 27),
+        (changed_side(member, |s| s.clearing = *b"V001"), 0),
+        (changed_side(member, |s| s.clearing = *b"V031"), 0),
+        (changed_side(member, |s| s.clearing = *b"V032"), 31),
+        (changed_side(member, |s| s.clearing = *b"V000"), 31),
+        (changed_side(member, |s| s.clearing = *b"V256"), 31),
+        (changed_side(member, |s| s.clearing = *b"V257"), 31),
+        (changed_side(member, |s| s.clearing = *b"R002"), 30),
+        (changed_side(member, |s| s.clearing = *b"T002"), 30),
+        (changed_side(member, |s| s.clearing = *b"v002"), 29),
+        (changed_side(member, |s| s.clearing = *b"V 02"), 29),
+        (changed_side(member, |s| s.clearing = *b"   2"), 29),
+        (changed_side(member, |s| s.clearing = *b"V0/2"), 29),
+        (changed_side(member, |s| s.clearing = *b"V0:2"), 29),
+    ]
 }
 
 #[test]
 fn each_side_of_a_trade_is_taken_within_its_edges(rt: HostRuntime) -> Result<(), Fail> {
-    let cases = [
-        (Field::Category(b'O'), 0),
-        (Field::Category(b'M'), 0),
-        (Field::Category(b'I'), 0),
-        (Field::Category(b'-'), 0),
-        (Field::Category(b' '), 28),
-        (Field::Member(0), 27),
-        (Field::Member(3), 27),
-        (Field::Member(17), 27),
-        (Field::Clearing(*b"V001"), 0),
-        (Field::Clearing(*b"V031"), 0),
-        (Field::Clearing(*b"V032"), 31),
-        (Field::Clearing(*b"V000"), 31),
-        (Field::Clearing(*b"V256"), 31),
-        (Field::Clearing(*b"V257"), 31),
-        (Field::Clearing(*b"R002"), 30),
-        (Field::Clearing(*b"T002"), 30),
-        (Field::Clearing(*b"v002"), 29),
-        (Field::Clearing(*b"V 02"), 29),
-        (Field::Clearing(*b"   2"), 29),
-        (Field::Clearing(*b"V0/2"), 29),
-        (Field::Clearing(*b"V0:2"), 29),
-    ];
     let mut book = opened(rt.alloc())?;
-    for (number, (field, expected)) in (1..=21).zip(cases.iter()) {
-        let sold = changed(numbered(number), Change::Seller(*field));
-        expect(&mut book, Call::Trade(sold), *expected)?;
+    for (number, (side, expected)) in (1..).zip(sides(1)) {
+        expect(&mut book, changed(number, |t| t.seller = side), expected)?;
     }
-    for (number, (field, expected)) in (22..=42).zip(cases.iter()) {
-        let bought = changed(numbered(number), Change::Buyer(*field));
-        expect(&mut book, Call::Trade(bought), *expected)?;
+    for (number, (side, expected)) in (22..).zip(sides(2)) {
+        expect(&mut book, changed(number, |t| t.buyer = side), expected)?;
     }
     Ok(())
 }

@@ -1,4 +1,4 @@
-// Worked cases of the rules, and tests of many cases.
+//! Worked cases of the rules, and tests of many cases.
 #![tactic(auto)]
 
 ghost use Rattle.std.specs.Prelude.{◌≡◌, length};
@@ -6,10 +6,9 @@ ghost use Rattle.cases.specs.Worked.{WorkedCases, table};
 
 #[cfg(test)]
 mod building;
+pub mod caller;
 #[cfg(test)]
 mod calls;
-#[cfg(test)]
-mod changes;
 #[cfg(test)]
 mod edges;
 #[cfg(test)]
@@ -18,8 +17,12 @@ mod lives;
 mod openings;
 #[cfg(test)]
 mod order;
+#[cfg(test)]
+mod registers;
+#[cfg(test)]
+mod runs;
 
-// How many cases are worked.
+/// How many cases are worked.
 pub fn worked_cases() -> usize
     ensures right { WorkedCases }
     ensures count { result ≡ length table }

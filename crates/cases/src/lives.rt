@@ -1,27 +1,8 @@
-// What becomes of trades: their numbers, their room on the book, and who may consent.
+//! What becomes of trades: their numbers, their room on the book, and who may consent.
 use crate::building::{compare, expect, opened};
-use crate::calls::{numbered, terms, trade};
-use crate::changes::{Change, Field, changed};
+use crate::calls::{changed, terms, trade};
 use history::Call;
 use std::test::Fail;
-
-// A trade with a seller's clearing field.
-fn sold_by(number: u32, clearing: [u8; 4]) -> Call {
-    let change = Change::Seller(Field::Clearing(clearing));
-    Call::Trade(changed(numbered(number), change))
-}
-
-// .. with a buyer's.
-fn bought_by(number: u32, clearing: [u8; 4]) -> Call {
-    let change = Change::Buyer(Field::Clearing(clearing));
-    Call::Trade(changed(numbered(number), change))
-}
-
-// The seller trades for itself and not for a client.
-fn own(number: u32) -> Call {
-    let change = Change::Seller(Field::Category(b'O'));
-    Call::Trade(changed(numbered(number), change))
-}
 
 #[test]
 fn the_movement_129_waits_until_one_is_cancelled(rt: HostRuntime) -> Result<(), Fail> {
@@ -45,7 +26,7 @@ fn the_movement_129_waits_until_one_is_cancelled(rt: HostRuntime) -> Result<(), 
 #[test]
 fn only_an_accepted_trade_uses_its_number_up(rt: HostRuntime) -> Result<(), Fail> {
     let cases = [
-        (sold_by(9, *b"V032"), 31),
+        (changed(9, |t| t.seller.clearing = *b"V032"), 31),
         (trade(5), 0),
         (trade(5), 20),
         (trade(4), 20),
@@ -76,7 +57,7 @@ fn giver_and_payer_consent_once(rt: HostRuntime) -> Result<(), Fail> {
         (Call::Consent(1, 4), 52),
         (Call::Consent(1, 9), 51),
         // giver by the clearing field, payer by terms
-        (sold_by(2, *b"V004"), 0),
+        (changed(2, |t| t.seller.clearing = *b"V004"), 0),
         (Call::Consent(2, 4), 0),
         (Call::Consent(2, 4), 52),
         (Call::Consent(2, 1), 51),
@@ -91,12 +72,12 @@ fn giver_and_payer_consent_once(rt: HostRuntime) -> Result<(), Fail> {
 #[test]
 fn a_one_off_participant_has_the_duties(rt: HostRuntime) -> Result<(), Fail> {
     let cases = [
-        (sold_by(1, *b"V031"), 0),
+        (changed(1, |t| t.seller.clearing = *b"V031"), 0),
         (Call::Consent(1, 1), 51),
         (Call::Consent(1, 31), 0),
         (Call::Consent(1, 31), 52),
         (Call::Consent(1, 4), 0),
-        (bought_by(2, *b"V030"), 0),
+        (changed(2, |t| t.buyer.clearing = *b"V030"), 0),
         (Call::Consent(2, 4), 51),
         (Call::Consent(2, 30), 0),
         (Call::Consent(2, 30), 52),
@@ -116,10 +97,10 @@ fn a_movement_keeps_the_terms_that_it_took(rt: HostRuntime) -> Result<(), Fail> 
         (trade(1), 0),
         (terms(1, b'C', 5, 6), 0),
         (trade(2), 0),
-        (own(3), 0),
+        (changed(3, |t| t.seller.category = b'O'), 0),
         (terms(1, b'-', 7, 8), 0),
         (trade(4), 0),
-        (own(5), 0),
+        (changed(5, |t| t.seller.category = b'O'), 0),
         (Call::Consent(1, 5), 51),
         (Call::Consent(1, 7), 51),
         (Call::Consent(1, 1), 0),

@@ -1,4 +1,4 @@
-// Openings that pass and openings that fail.
+//! Openings that pass and openings that fail.
 use crate::building::{Depository, compare, expect, table};
 use crate::calls::{shares, terms, trade};
 use book::Book;
@@ -10,10 +10,10 @@ use std::test::Fail;
 #[derive(Clone, Copy)]
 struct Opening(u8, u8, i64, u32);
 
-fn opened(heap: Global, opening: Opening) -> Result<Depository, AllocError> {
+fn opened(alloc: Global, opening: Opening) -> Result<Depository, AllocError> {
     let Opening(accounts, kinds, amount, day) = opening;
-    let securities = table(heap, kinds, accounts, amount)?;
-    let cash = table(heap, 2, accounts, amount)?;
+    let securities = table(alloc, kinds, accounts, amount)?;
+    let cash = table(alloc, 2, accounts, amount)?;
     Ok(Book::open(securities, cash, day))
 }
 

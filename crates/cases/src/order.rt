@@ -1,41 +1,65 @@
-// Every question is asked before the next: a call that fails two of them gets the number of the first.
-use crate::building::{compare, expect, opened};
-use crate::calls::{money, numbered, shares, terms, trade};
-use crate::changes::{Change, Field, changed};
+//! Every question is asked before the next: a call that fails two of them gets the number of the first.
+use crate::building::{Depository, compare, expect, opened};
+use crate::calls::{changed, money, shares, terms, trade};
 use book::Place;
 use history::Call;
+use movement::Trade;
 use std::test::Fail;
 
-// For each question of a trade, in the order in which they are asked, a change that it refuses. Members 3 and 4 have no terms; each clearing field fails the questions after its own too.
-const REFUSED: [(Change, u8); 17] = [
-    (Change::Number(0), 20),
-    (Change::Class(b'X'), 21),
-    (Change::Security(4), 22),
-    (Change::Quantity(0), 23),
-    (Change::Currency(2), 24),
-    (Change::Sum(0), 25),
-    (Change::Day(31), 26),
-    (Change::Seller(Field::Category(b'X')), 28),
-    (Change::Seller(Field::Member(3)), 27),
-    (Change::Seller(Field::Clearing(*b"v032")), 29),
-    (Change::Seller(Field::Clearing(*b"R032")), 30),
-    (Change::Seller(Field::Clearing(*b"V032")), 31),
-    (Change::Buyer(Field::Category(b'X')), 28),
-    (Change::Buyer(Field::Member(4)), 27),
-    (Change::Buyer(Field::Clearing(*b"v032")), 29),
-    (Change::Buyer(Field::Clearing(*b"R032")), 30),
-    (Change::Buyer(Field::Clearing(*b"V032")), 31),
-];
+// A change of a trade, which may be made of any.
+#[derive(Clone, Copy)]
+struct Change {
+    apply: fn(&mut Trade),
+    ghost always: { IsAlwaysCallable apply },
+}
+
+impl Change {
+    fn new(apply: fn(&mut Trade)) -> Change
+        requires { IsAlwaysCallable apply }
+    {
+        Change { apply }
+    }
+}
+
+// Makes a trade by each two changes of a table, and compares its answer with the first's number.
+// The table has a change for each question of a trade, in the order in which they are asked.
+// Members 3 and 4 have no terms; each clearing field fails the questions after its own too.
+fn compare_by_two(book: &mut Depository, number: u32) -> Result<(), Fail> {
+    let refused = [
+        (Change::new(|t| t.number = 0), 20),
+        (Change::new(|t| t.class = b'X'), 21),
+        (Change::new(|t| t.security = 4), 22),
+        (Change::new(|t| t.quantity = 0), 23),
+        (Change::new(|t| t.currency = 2), 24),
+        (Change::new(|t| t.sum = 0), 25),
+        (Change::new(|t| t.day = 31), 26),
+        (Change::new(|t| t.seller.category = b'X'), 28),
+        (Change::new(|t| t.seller.member = 3), 27),
+        (Change::new(|t| t.seller.clearing = *b"v032"), 29),
+        (Change::new(|t| t.seller.clearing = *b"R032"), 30),
+        (Change::new(|t| t.seller.clearing = *b"V032"), 31),
+        (Change::new(|t| t.buyer.category = b'X'), 28),
+        (Change::new(|t| t.buyer.member = 4), 27),
+        (Change::new(|t| t.buyer.clearing = *b"v032"), 29),
+        (Change::new(|t| t.buyer.clearing = *b"R032"), 30),
+        (Change::new(|t| t.buyer.clearing = *b"V032"), 31),
+    ];
+    for (i, (first, expected)) in refused.iter().enumerate() {
+        for (second, _) in refused.iter().skip(i) {
+            let twice = changed(number, |t| {
+                (second.apply)(t);
+                (first.apply)(t);
+            });
+            expect(book, twice, *expected)?;
+        }
+    }
+    Ok(())
+}
 
 #[test]
 fn a_trade_that_fails_two_questions_gets_the_first(rt: HostRuntime) -> Result<(), Fail> {
     let mut book = opened(rt.alloc())?;
-    for (i, (first, number)) in REFUSED.iter().enumerate() {
-        for (second, _) in REFUSED.iter().skip(i) {
-            let twice = changed(changed(numbered(1), *second), *first);
-            expect(&mut book, Call::Trade(twice), *number)?;
-        }
-    }
+    compare_by_two(&mut book, 1)?;
     expect(&mut book, trade(1), 0)
 }
 
@@ -45,10 +69,7 @@ fn a_full_book_is_asked_last(rt: HostRuntime) -> Result<(), Fail> {
     for number in 1..=128 {
         expect(&mut book, trade(number), 0)?;
     }
-    for (change, number) in REFUSED.iter() {
-        let refused = changed(numbered(129), *change);
-        expect(&mut book, Call::Trade(refused), *number)?;
-    }
+    compare_by_two(&mut book, 129)?;
     expect(&mut book, trade(129), 32)
 }
 

@@ -6,9 +6,6 @@ use Rattle.register.specs.Answers.{Changed}
 use Rattle.fault.specs.declared.fault.Fault.{Fault}
 use Rattle.fault.specs.Questions.{Question, first_no, unless, asked}
 
-pub ok_is_no_error : {A E : Type 0} {v : A} {e : E} {r : Result A E} → r ≡ Ok v → r ≡ Err e → ⊥
-ok_is_no_error {A} {E} {v} {e} {r} p q = grind arith
-
 -- a refusal, or an answer, of a call that may be refused before
 pub unless_fault : {A : Type 0} (o : Option Fault) (v : A) (f : Fault) → unless o (Ok v) ≡ Err f → o ≡ Some f
 unless_fault o v f e = grind arith

@@ -6,10 +6,9 @@ use Rattle.std.specs.Io.KnownBytes.{Appends, Consumes}
 use Rattle.std.proofs.KnownBytes.{Appends-trans, Consumes-trans}
 use Rattle.book.specs.State.{State}
 use Rattle.frames.specs.Hex.{line_bytes}
-use Rattle.frames.specs.Replies.{spare}
+use Rattle.frames.specs.Replies.{longest, spare}
 use Rattle.frames.specs.Sessions.{Fed, Serves, after_lines, answers, last_line, lines, rest, text_lines}
 use Rattle.frames.specs.Stream.{kept}
-use Rattle.frames.specs.declared.writing.TheConstants.{MAX_REPLY}
 use Rattle.frames.proofs.Chunks.{chunks_alike, texts_alike}
 use Rattle.frames.proofs.Feeding.{after_more, answers_more, same_answers}
 
@@ -23,7 +22,7 @@ length-lines p (c ∷ cs) =
     grind (arith, nat_tests)
 
 -- a chunk is answered where there is room for an answer to each character of it
-pub never_stops : {Z : Type 0} (q chunk q' : List ℕ) (s t : State) (out out' : Vec ℕ Z) (done : Bool) → Fed q chunk s t out out' q' done → MAX_REPLY * length chunk ≤ spare out → done ≡ true
+pub never_stops : {Z : Type 0} (q chunk q' : List ℕ) (s t : State) (out out' : Vec ℕ Z) (done : Bool) → Fed q chunk s t out out' q' done → longest * length chunk ≤ spare out → done ≡ true
 never_stops q chunk q' s t out out' true fed room = refl
 never_stops q chunk q' s t out out' false fed room = absurd (omega (arith, fed.stopped, length-lines q chunk))
 

@@ -2,7 +2,6 @@
 use Rattle.std.specs.Prelude.{◌≡◌, ℕ, ◌+◌, ◌-◌, ◌*◌, ◌/◌, ◌%◌, ◌<◌, ◌≤◌, Bool, ◌&&◌, List, [], ◌∷◌, length, Some, None, Option, ◌==◌, nat_lt, if◌then◌else◌}
 use Rattle.std.specs.Int.{is_in_range}
 use Rattle.std.specs.List.{flat_map, AllByRecursion}
-use Rattle.frames.specs.declared.line.TheConstants.{MAX_FRAME}
 
 -- the number that a character stands for: 0 to 9, A to F, a to f
 abbrev pub digit_value : ℕ → Option ℕ
@@ -33,9 +32,13 @@ pairs [] = Some []
 pairs (a ∷ []) = None
 pairs (a ∷ b ∷ rest) = before (byte_of (digit_value a) (digit_value b)) (pairs rest)
 
+-- no line says more bytes
+abbrev pub most_bytes : ℕ
+most_bytes = 38
+
 -- how many characters a line may have: an even number, for 1 to 38 bytes
 abbrev pub has_right_length : ℕ → Bool
-has_right_length n = is_in_range 2 (2 * MAX_FRAME) n && n % 2 == 0
+has_right_length n = is_in_range 2 (2 * most_bytes) n && n % 2 == 0
 
 -- the bytes that a line says, if it is one of digits and of the right length
 abbrev pub line_bytes : List ℕ → Option (List ℕ)
@@ -56,5 +59,5 @@ hex_text bytes = flat_map hex_of bytes
 -- the law: what is written of 1 to 38 bytes is a line that says them
 abbrev pub RoundTrip : Type 0
 RoundTrip =
-    (bytes : List ℕ) → AllByRecursion (λ b. b < 256) bytes → 1 ≤ length bytes → length bytes ≤ MAX_FRAME
+    (bytes : List ℕ) → AllByRecursion (λ b. b < 256) bytes → 1 ≤ length bytes → length bytes ≤ most_bytes
     → line_bytes (hex_text bytes) ≡ Some bytes

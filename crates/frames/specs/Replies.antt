@@ -11,7 +11,6 @@ use Rattle.history.specs.Step.{answer, after}
 use Rattle.history.specs.Law.{Performed}
 use Rattle.frames.specs.Hex.{hex_text}
 use Rattle.frames.specs.Calls.{line_call}
-use Rattle.frames.specs.declared.writing.TheConstants.{MAX_REPLY}
 
 -- what an accepted call answers after its 00
 abbrev pub result_bytes : Answer → List ℕ
@@ -26,6 +25,10 @@ answer_bytes (Err f) = 255 ∷ (fault_number f ∷ [])
 -- in capital hexadecimal digits, with the end of the line
 abbrev pub answer_line : Result Answer Fault → List ℕ
 answer_line r = hex_text (answer_bytes r) ++ (10 ∷ [])
+
+-- no answer's line is longer: two digits for each of nine bytes, and the end of the line
+abbrev pub longest : ℕ
+longest = 19
 
 -- the answer of what was read, and the state after it
 abbrev pub said_answer : State → Result Call Fault → Result Answer Fault
@@ -59,7 +62,7 @@ pub record Responded {Z : Type 0} (line : List ℕ) (s t : State) (out out' : Ve
   pub written : vec_items out' ≡ (if done then vec_items out ++ answer_line (line_answer s line) else vec_items out)
   pub becomes : t ≡ (if done then after_line s line else s)
   pub answered : done ≡ true → LineAnswered line s (line_answer s line) t
-  pub stopped : done ≡ false → spare out < MAX_REPLY
+  pub stopped : done ≡ false → spare out < longest
   -- it takes at most the longest line's room, and the capacity never shrinks
-  pub used : spare out ≤ spare out' + (if done then MAX_REPLY else 0)
+  pub used : spare out ≤ spare out' + (if done then longest else 0)
   pub keeps_room : vec_capacity out ≤ vec_capacity out'

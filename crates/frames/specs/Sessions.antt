@@ -10,9 +10,8 @@ use Rattle.history.specs.History.{Event, Leads, event}
 use Rattle.history.specs.Law.{Lawful}
 use Rattle.frames.specs.Calls.{line_call}
 use Rattle.frames.specs.Hex.{line_bytes}
-use Rattle.frames.specs.Replies.{after_line, answer_line, line_answer, spare}
+use Rattle.frames.specs.Replies.{after_line, answer_line, line_answer, longest, spare}
 use Rattle.frames.specs.Stream.{kept}
-use Rattle.frames.specs.declared.writing.TheConstants.{MAX_REPLY}
 
 -- the whole lines in the text of an unfinished line followed by a chunk: each newline ends one
 -- (std's slice_split is no plainer: it would cut at a newline of p too, and p is text, whatever it has)
@@ -79,7 +78,7 @@ LinesLawful =
 pub record LinesAnswered {Z : Type 0} (ls : List (List ℕ)) (s t : State) (out out' : Vec ℕ Z) : Type 0 where
   pub written : vec_items out' ≡ vec_items out ++ answers s ls
   pub becomes : t ≡ after_lines s ls
-  pub used : spare out ≤ spare out' + MAX_REPLY * length ls
+  pub used : spare out ≤ spare out' + longest * length ls
   pub keeps_room : vec_capacity out ≤ vec_capacity out'
 
 -- the first of them were, and then room and memory were wanting
@@ -88,7 +87,7 @@ pub record Stopped {Z : Type 0} (ls : List (List ℕ)) (s t : State) (out out' :
   pub others : List (List ℕ)
   pub all : ls ≡ first ++ others
   pub answered : LinesAnswered first s t out out'
-  pub stopped : spare out < MAX_REPLY * length ls
+  pub stopped : spare out < longest * length ls
 
 -- a chunk after the text p of an unfinished line: its lines were answered, and q is kept of what is
 -- left, or the first of the lines were answered
@@ -101,7 +100,7 @@ Fed p chunk s t out out' q false = Stopped (lines p chunk) s t out out'
 pub record Ended {Z : Type 0} (ls : List (List ℕ)) (s t : State) (out out' : Vec ℕ Z) (done : Bool)
     : Type 0 where
   pub answered : LinesAnswered (if done then ls else []) s t out out'
-  pub stopped : done ≡ false → spare out < MAX_REPLY
+  pub stopped : done ≡ false → spare out < longest
 
 -- every line of a text that follows an unfinished line was answered into what a writer holds
 pub record Serves (p text : List ℕ) (s t : State) (held held' : Option (List ℕ)) : Type 0 where

@@ -2,8 +2,7 @@
 ghost use Rattle.std.specs.Prelude.{◌≡◌, ◌*◌, ◌%◌, ◌≤◌, length};
 ghost use Rattle.std.specs.Option.{option_map};
 ghost use Rattle.frames.specs.Frames.{frame_bytes};
-ghost use Rattle.frames.specs.declared.line.TheConstants.{MAX_FRAME};
-ghost use Rattle.frames.specs.Hex.{byte_of, digit_value, has_right_length, line_bytes, pairs};
+ghost use Rattle.frames.specs.Hex.{byte_of, digit_value, has_right_length, line_bytes, pairs, most_bytes};
 
 use crate::hex::digit;
 use arrayvec::ArrayVec;
@@ -34,7 +33,7 @@ fn has_right_length(count: usize) -> bool
 
 // The bytes of a line of the right length.
 fn paired(line: &[u8]) -> Option<Frame>
-    requires short { length line.now ≤ 2 * MAX_FRAME }
+    requires short { length line.now ≤ 2 * most_bytes }
     requires even { length line.now % 2 ≡ 0 }
     ensures { option_map frame_bytes result ≡ pairs line.now }
 {

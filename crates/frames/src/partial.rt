@@ -1,7 +1,6 @@
 //! What has come of a line so far.
 ghost use Rattle.std.specs.Prelude.{◌≡◌, ◌≤◌, [], ◌∷◌, ◌++◌, length, ◌==◌};
-ghost use Rattle.frames.specs.declared.partial.TheConstants.{MAX_KEPT};
-ghost use Rattle.frames.specs.Stream.{CutAlike, kept};
+ghost use Rattle.frames.specs.Stream.{CutAlike, kept, most_kept};
 
 use crate::line::MAX_FRAME;
 use arrayvec::ArrayVec;
@@ -37,7 +36,7 @@ impl Partial {
     /// The characters that are kept.
     pub fn as_slice(&self) -> &[u8]
         ensures value { result.now ≡ self.now }
-        ensures fits { length result.now ≤ MAX_KEPT }
+        ensures fits { length result.now ≤ most_kept }
     {
         self.characters.as_slice()
     }

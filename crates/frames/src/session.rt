@@ -1,9 +1,9 @@
 //! Lines come in chunks of text and are answered one after the other.
 ghost use Rattle.std.specs.Prelude.{◌≡◌, ◌*◌, ◌<◌, ◌≤◌, [], ◌∷◌, ◌++◌, length, vec_len, vec_capacity, is_ok, if◌then◌else◌, IfOk, OnOk, IfSome};
 ghost use Rattle.std.specs.Io.KnownBytes.{Appends};
+ghost use Rattle.frames.specs.Replies.{longest};
 ghost use Rattle.frames.specs.Sessions.{ChunksAlike, Ended, Fed, LinesLawful, Serves, TextsAlike, after_lines, answers, last_line, lines, rest};
 ghost use Rattle.frames.specs.Stream.{kept};
-ghost use Rattle.frames.specs.declared.writing.TheConstants.{MAX_REPLY};
 
 use crate::partial::Partial;
 use crate::responding::respond;
@@ -113,7 +113,7 @@ impl<B: Settlement> Session<B> {
         output: &mut W,
     ) -> io::Result<()>
         requires some { 0 < length chunk.old }
-        requires room { MAX_REPLY * length chunk.old ≤ vec_capacity out.old }
+        requires room { longest * length chunk.old ≤ vec_capacity out.old }
         ensures { OnOk result (IfSome (R.remaining input.old) (λ text. Serves self.old.pending text
             (B.Settlement.state self.old.book) (B.Settlement.state self.new.book)
             (W.contents output.old) (W.contents output.new))) }
@@ -136,7 +136,7 @@ impl<B: Settlement> Session<B> {
         out: &mut Vec<u8>,
         output: &mut W,
     ) -> io::Result<()>
-        requires { MAX_REPLY * length chunk.now ≤ vec_capacity out.old }
+        requires { longest * length chunk.now ≤ vec_capacity out.old }
         ensures written { OnOk result (Appends (W.contents output.old) (W.contents output.new)
             (answers (B.Settlement.state self.old.book) (lines self.old.pending chunk.now))) }
         ensures becomes { B.Settlement.state self.new.book
@@ -152,7 +152,7 @@ impl<B: Settlement> Session<B> {
 
     // Answers the line whose end has not come, and writes the answer, for which there is room.
     fn answer_last<W: Write>(&mut self, out: &mut Vec<u8>, output: &mut W) -> io::Result<()>
-        requires { MAX_REPLY ≤ vec_capacity out.old }
+        requires { longest ≤ vec_capacity out.old }
         ensures written { OnOk result (Appends (W.contents output.old) (W.contents output.new)
             (answers (B.Settlement.state self.old.book) (last_line self.old.pending))) }
         ensures becomes { B.Settlement.state self.new.book

@@ -3,7 +3,7 @@ use Rattle.std.proofs.Common.{◌≡◌, ℕ, suc, ◌+◌, ◌<◌, ◌≤◌, 
 use Rattle.std.proofs.lemmas.Bool.{cases_eq, eqb-true, eq-eqb, ne_eqb}
 use Rattle.std.proofs.lemmas.List.Folds.{find_at, find-set, find_past, find-append}
 use Rattle.std.proofs.lemmas.List.Sums.{sum_by-cons, sum_by_push, sum_by-set, sum_by-remove, passes_at_first, split_at_first}
-use Rattle.std.proofs.lemmas.Option.{get_or_from_slice_get, slice_get_cases, none-some}
+use Rattle.std.proofs.lemmas.Option.{get_or_from_slice_get, slice_get_within, none-some}
 use Rattle.std.specs.List.{count_by, find, slice_get}
 use Rattle.std.specs.Option.{option_map, option_map_or, option_or}
 use Rattle.movement.specs.declared.movement.Movement.{Movement}
@@ -31,11 +31,7 @@ record Stands (ms : List Movement) (n : ℕ) (m : Movement) : Type 0 where
 stands : (n : ℕ) (ms : List Movement) (m : Movement) → on_book n ms ≡ Some m → Stands ms n m
 stands n ms m found =
     let at : slice_get ms (place_of n ms) ≡ Some m = sym (find_at (has_number n) ms) ∙ found in
-    let within : place_of n ms < length ms =
-    ⊎_elim
-    (λ (q : (x : Movement) × (place_of n ms < length ms) × (slice_get ms (place_of n ms) ≡ Some x) × (get_or ms (place_of n ms) x ≡ x)). q.1)
-    (λ (q : (length ms ≤ place_of n ms) × (slice_get ms (place_of n ms) ≡ None)). absurd (none-some m (sym q.1 ∙ at)))
-    (slice_get_cases ms (place_of n ms)).1 in
+    let within = slice_get_within ms (place_of n ms) m at in
     let read = λ (d : Movement). get_or_from_slice_get ms (place_of n ms) m d at in
     record {
       within = within;
@@ -52,9 +48,13 @@ by_found P n ms none some =
     elim (on_book n ms) as (λ o. on_book n ms ≡ o → P o) [ None ↦ none | Some m ↦ some m ] refl
 
 module _ (f : Movement → Movement) (same : (m : Movement) → (f m).number ≡ m.number) where
+  -- the list with what the number k found changed
+  abbrev left_by : ℕ → List Movement → Option Movement → List Movement
+  left_by k ms o = option_map_or (λ x. set ms (place_of k ms) (f x)) o ms
+
   pub count_changed : (n k : ℕ) (ms : List Movement) → count n (changed_at k f ms) ≡ count n ms
   count_changed n k ms =
-      by_found (λ o. count n (option_map_or (λ x. set ms (place_of k ms) (f x)) o ms) ≡ count n ms) k ms
+      by_found (λ o. count n (left_by k ms o) ≡ count n ms) k ms
       (λ none. refl)
       (λ m found.
       let at = stands k ms m found in
@@ -66,7 +66,7 @@ module _ (f : Movement → Movement) (same : (m : Movement) → (f m).number ≡
   -- the movement of the number is changed
   pub changed_here : (n : ℕ) (ms : List Movement) → on_book n (changed_at n f ms) ≡ option_map f (on_book n ms)
   changed_here n ms =
-      by_found (λ o. on_book n (option_map_or (λ x. set ms (place_of n ms) (f x)) o ms) ≡ option_map f o) n ms
+      by_found (λ o. on_book n (left_by n ms o) ≡ option_map f o) n ms
       (λ none. none)
       (λ m found.
       let at = stands n ms m found in
@@ -75,7 +75,7 @@ module _ (f : Movement → Movement) (same : (m : Movement) → (f m).number ≡
   -- .. and no other
   pub changed_there : (k n : ℕ) (ms : List Movement) → (k ≡ n → ⊥) → on_book k (changed_at n f ms) ≡ on_book k ms
   changed_there k n ms other =
-      by_found (λ o. on_book k (option_map_or (λ x. set ms (place_of n ms) (f x)) o ms) ≡ on_book k ms) n ms
+      by_found (λ o. on_book k (left_by n ms o) ≡ on_book k ms) n ms
       (λ none. refl)
       (λ m found.
       let at = stands n ms m found in

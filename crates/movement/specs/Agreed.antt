@@ -3,8 +3,8 @@ use Rattle.std.specs.Prelude.{ℕ, Bool, if◌then◌else◌, ◌&&◌, Some, No
 use Rattle.std.specs.Option.{option_or}
 use Rattle.movement.specs.declared.category.Category.{Category}
 use Rattle.movement.specs.declared.category.Category.TheVariants.{Main}
-use Rattle.movement.specs.declared.limits.TheConstants.{MEMBERS}
 use Rattle.movement.specs.Letters.{row}
+use Rattle.movement.specs.Limits.{members}
 
 -- what each member has set for each category, if anything
 abbrev pub Agreed : Type 0
@@ -16,7 +16,7 @@ none_agreed m c = None
 
 -- members are numbered from 1
 abbrev pub member_known : ℕ → Bool
-member_known m = nat_le 1 m && nat_le m MEMBERS
+member_known m = nat_le 1 m && nat_le m members
 
 -- one category of one member set
 abbrev pub with_terms : Agreed → ℕ → Category → (ℕ × ℕ) → Agreed

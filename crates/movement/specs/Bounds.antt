@@ -2,15 +2,11 @@
 use Rattle.std.specs.Prelude.{◌≡◌, ℕ, Bool, true, ◌&&◌, List, Some, None, Option, nat_le, nat_lt}
 use Rattle.std.specs.List.{list_all}
 use Rattle.movement.specs.declared.category.Category.{Category}
-use Rattle.movement.specs.declared.limits.TheConstants.{CURRENCIES, MAX_MOVED}
 use Rattle.movement.specs.declared.movement.Movement.{Movement}
 use Rattle.movement.specs.declared.party.Party.{Party}
 use Rattle.movement.specs.Agreed.{Agreed}
+use Rattle.movement.specs.Limits.{currencies, most_moved}
 use Rattle.movement.specs.Settings.{participant_known}
-
--- the largest quantity and sum of a trade
-abbrev pub most_traded : ℕ
-most_traded = MAX_MOVED
 
 -- from 1 to the most
 abbrev pub from_one_to : ℕ → ℕ → Bool
@@ -38,9 +34,9 @@ abbrev pub movement_fits : ℕ → ℕ → Movement → Bool
 movement_fits accounts kinds m =
     nat_le 1 m.number
     && (nat_lt m.security kinds
-    && (from_one_to most_traded m.quantity
-    && (nat_lt m.currency CURRENCIES
-    && (from_one_to most_traded m.sum
+    && (from_one_to most_moved m.quantity
+    && (nat_lt m.currency currencies
+    && (from_one_to most_moved m.sum
     && (party_fits accounts m.seller && party_fits accounts m.buyer)))))
 
 -- every movement is within them

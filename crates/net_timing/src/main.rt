@@ -1,5 +1,5 @@
-// Takes a case and a number of turns, settles the case's package so many times, and tells how many movements settled
-// over all turns. It is what bench/netting takes the time of.
+//! Takes a case and a number of turns, settles the case's package so many times, and tells how many
+//! movements settled over all turns. It is what bench/netting takes the time of.
 #![tactic(auto)]
 
 mod package;
@@ -14,13 +14,7 @@ const USAGE: &str = "usage: net_timing worst|full TURNS";
 // How many movements of a package settle.
 fn count(package: &Package) -> Option<u64> {
     let marks = settling(&package.movements, &[true; MOVEMENTS], &package.amounts)?;
-    let mut settled = 0u64;
-    for mark in &marks {
-        if *mark {
-            settled = settled.saturating_add(1);
-        }
-    }
-    Some(settled)
+    Some(marks.iter().filter(|mark| **mark).count() as u64)
 }
 
 // How many settle over all turns, each of them computed anew.
@@ -36,10 +30,7 @@ fn total(mut package: Package, turns: u32) -> Option<u64> {
 fn run(rt: &HostRuntime) -> anyhow::Result<()> {
     let mut words = env::args(rt)?;
     let _ = words.next();
-    let Some(case) = words.next() else {
-        return Err(anyhow!("{USAGE}"));
-    };
-    let Some(turns) = words.next() else {
+    let (Some(case), Some(turns), None) = (words.next(), words.next(), words.next()) else {
         return Err(anyhow!("{USAGE}"));
     };
     let turns = turns.as_str().parse::<u32>()?;

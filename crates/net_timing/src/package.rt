@@ -1,15 +1,12 @@
-// The packages whose settling is timed.
-use movement::{Class, Movement, Party};
-use netting::{MOVEMENTS, PLACES};
+//! The packages whose settling is timed.
+use movement::{Class, Movement, Party, Side};
+use netting::{MOVEMENTS, PLACES, place_of};
+use std::array;
 
 // What a place holds that is not short.
 const PLENTY: u64 = 1_000_000;
 
-// Litas of account 0, and euro of account 31, which is the last place.
-const IDLE: usize = 512;
-
-const LAST: usize = 575;
-
+/// The movements of a case, all tried, and what each place holds.
 #[derive(Clone, Copy)]
 pub struct Package {
     pub movements: [Movement; MOVEMENTS],
@@ -73,28 +70,23 @@ fn full_movement(i: u8) -> Movement {
 impl Package {
     // Account 31 has no euro: all are struck for the last place, and none can rejoin.
     fn worst() -> Package {
-        let mut movements = [worst_movement(0); MOVEMENTS];
-        for i in 0..MOVEMENTS {
-            movements[i] = worst_movement(i as u8);
-        }
         let mut amounts = [PLENTY; PLACES];
-        amounts[LAST] = 0;
-        Package { movements, amounts }
+        amounts[place_of(Side::Cash, 1, 31)] = 0;
+        Package {
+            movements: array::from_fn(|i| worst_movement(i as u8)),
+            amounts,
+        }
     }
 
     // Nothing is short: all settle.
     fn full() -> Package {
-        let mut movements = [full_movement(0); MOVEMENTS];
-        for i in 0..MOVEMENTS {
-            movements[i] = full_movement(i as u8);
-        }
         Package {
-            movements,
+            movements: array::from_fn(|i| full_movement(i as u8)),
             amounts: [PLENTY; PLACES],
         }
     }
 
-    // The package of a case.
+    /// The package of a case.
     pub fn of(case: &str) -> Option<Package> {
         match case {
             "worst" => Some(Package::worst()),
@@ -103,9 +95,10 @@ impl Package {
         }
     }
 
-    // Alters what does not matter, so that no turn can take the answer of the one before.
+    /// Alters what does not matter, so that no turn can take the answer of the one before.
     pub fn turn(&mut self, turn: u32) {
-        self.amounts[IDLE] = PLENTY + u64::from(turn);
+        let litas_of_account_0 = place_of(Side::Cash, 0, 0);
+        self.amounts[litas_of_account_0] = PLENTY + u64::from(turn);
         self.movements[0].day = (turn % 65_536) as u16;
     }
 }

@@ -5,15 +5,18 @@ use Rattle.std.proofs.lemmas.Bool.Decides.{nat_tests}
 use Rattle.register.specs.Holdings.{sum_below}
 use Rattle.movement.specs.declared.movement.Movement.{Movement}
 use Rattle.movement.specs.Movements.{giver, receiver, payer, payee}
-use Rattle.netting.specs.Places.{accounts, place, cash_row, at, takes, brings}
+use Rattle.movement.specs.declared.side.Side.TheVariants.{Securities, Cash}
+use Rattle.netting.specs.Places.{accounts, place, row_of, place_of, at, takes, brings}
 use Rattle.netting.specs.Positions.{in_package}
-use Rattle.netting.specs.Limits.{fits, Fitting}
+use Rattle.netting.specs.Limits.{fits}
+use Rattle.netting.proofs.Within.{Fitting}
 use Rattle.netting.specs.Theorems.{Balanced}
 use Rattle.register.proofs.Sums.{sum_same, sum_changed}
 use Rattle.netting.proofs.Sums.{sum_of_both, sum_of_none, sum_exchanged}
+use Rattle.movement.specs.Limits.{most_accounts}
 
 -- an amount at one place, summed over the accounts of a row
-row_sum : (row of account n : ℕ) → account < 32 → sum_below accounts (λ a. cond (eqb (place row a) (place of account)) n 0) ≡ cond (eqb row of) n 0
+row_sum : (row of account n : ℕ) → account < most_accounts → sum_below accounts (λ a. cond (eqb (place row a) (place of account)) n 0) ≡ cond (eqb row of) n 0
 unfolding accounts
 row_sum row of account n known =
     ⊎_elim
@@ -31,14 +34,14 @@ row_sum row of account n known =
 -- one movement, in a row
 movement_balanced : (m : Movement) (row : ℕ) → fits m ≡ true → sum_below accounts (λ a. brings m (place row a)) ≡ sum_below accounts (λ a. takes m (place row a))
 movement_balanced m row known =
-    let securities : ℕ → ℕ → ℕ = λ account. λ a. cond (eqb (place row a) (place m.security account)) m.quantity 0 in
-    let cash : ℕ → ℕ → ℕ = λ account. λ a. cond (eqb (place row a) (place (cash_row m.currency) account)) m.sum 0 in
+    let securities : ℕ → ℕ → ℕ = λ account. λ a. cond (eqb (place row a) (place_of Securities m.security account)) m.quantity 0 in
+    let cash : ℕ → ℕ → ℕ = λ account. λ a. cond (eqb (place row a) (place_of Cash m.currency account)) m.sum 0 in
     let brought = sum_of_both (securities (receiver m)) (cash (payee m)) accounts in
     let taken = sum_of_both (securities (giver m)) (cash (payer m)) accounts in
     let given = row_sum row m.security (giver m) m.quantity (grind (arith, nat_tests)) in
     let received = row_sum row m.security (receiver m) m.quantity (grind (arith, nat_tests)) in
-    let paid = row_sum row (cash_row m.currency) (payer m) m.sum (grind (arith, nat_tests)) in
-    let got = row_sum row (cash_row m.currency) (payee m) m.sum (grind (arith, nat_tests)) in
+    let paid = row_sum row (row_of Cash m.currency) (payer m) m.sum (grind (arith, nat_tests)) in
+    let got = row_sum row (row_of Cash m.currency) (payee m) m.sum (grind (arith, nat_tests)) in
     omega arith
 
 marked_balanced : (m : Movement) (row : ℕ) (inside : Bool) → fits m ≡ true → sum_below accounts (λ a. cond inside (brings m (place row a)) 0) ≡ sum_below accounts (λ a. cond inside (takes m (place row a)) 0)

@@ -1,5 +1,5 @@
 -- How positions change with the package.
-use Rattle.std.proofs.Common.{◌≡◌, ℕ, ◌+◌, ◌<◌, Bool, true, false, cond, List, length, set, ℤ, pos, ◌+ℤ◌, ◌-ℤ◌, arith}
+use Rattle.std.proofs.Common.{◌≡◌, ℕ, ◌+◌, ◌<◌, Bool, true, false, cond, not, List, length, set, ℤ, pos, ◌+ℤ◌, ◌-ℤ◌, arith}
 use Rattle.std.proofs.lemmas.Int.{ints}
 use Rattle.std.proofs.lemmas.Bool.{cond-true, cond-false}
 use Rattle.movement.specs.declared.movement.Movement.{Movement}
@@ -17,6 +17,9 @@ sum_out : (n : ℕ) (marks : List Bool) (f : ℕ → ℕ) → in_package marks n
 sum_out n marks f outside = let more = sum_more (λ i. cond (in_package marks i) (f i) 0) n in let here = cond-false (in_package marks n) (f n) 0 outside in omega arith
 
 module _ (movements : List Movement) (marks : List Bool) where
+  pub position_none : (p : ℕ) (before : ℤ) → before ≡ before +ℤ position_by 0 movements marks p
+  position_none p before = omega (arith, ints)
+
   pub position_in : (n p : ℕ) → in_package marks n ≡ true → position_by (n + 1) movements marks p ≡ position_by n movements marks p +ℤ pos (brings (at movements n) p) -ℤ pos (takes (at movements n) p)
   position_in n p inside =
       let b = sum_in n marks (λ i. brings (at movements i) p) inside in
@@ -43,19 +46,16 @@ module _ (movements : List Movement) (marks : List Bool) where
       let t = marked_less (length movements) marks (λ j. takes (at movements j) p) i below inside in
       omega (arith, ints)
 
-  -- the table after a movement was entered, and after one was taken out
-  pub kept_rejoined : (i : ℕ) (table table' : List ℤ) → i < length movements → i < length marks → in_package marks i ≡ false → Kept movements marks table →
-      Posted table table' (brings (at movements i)) (takes (at movements i)) → Kept movements (set marks i true) table'
-  kept_rejoined i table table' below within outside kept posted p h =
+  -- the table after a movement was entered or taken out
+  pub kept_marked : (before : ℕ → ℤ) (i : ℕ) (inside : Bool) (table table' : List ℤ) → i < length movements → i < length marks → in_package marks i ≡ not inside → Kept before movements marks table →
+      Posted table table' inside (brings (at movements i)) (takes (at movements i)) → Kept before movements (set marks i inside) table'
+  kept_marked before i true table table' below within outside kept posted p h =
       let changed = position_rejoined i p below within outside in
-      let before = kept p h in
+      let was = kept p h in
       let after = posted p in
       omega (arith, ints)
-
-  pub kept_struck : (i : ℕ) (table table' : List ℤ) → i < length movements → in_package marks i ≡ true → Kept movements marks table →
-      Posted table table' (takes (at movements i)) (brings (at movements i)) → Kept movements (set marks i false) table'
-  kept_struck i table table' below inside kept posted p h =
+  kept_marked before i false table table' below within inside kept posted p h =
       let changed = position_struck i p below inside in
-      let before = kept p h in
+      let was = kept p h in
       let after = posted p in
       omega (arith, ints)

@@ -5,21 +5,27 @@ use Rattle.std.proofs.lemmas.Int.{ints}
 use Rattle.std.proofs.lemmas.Bool.{cases_lt, cases_eq, cases_Bool, and_parts, and_cases, and_left, not-true}
 use Rattle.std.proofs.lemmas.Bool.Decides.{nat_tests}
 use Rattle.movement.specs.declared.movement.Movement.{Movement}
+use Rattle.movement.specs.declared.side.Side.TheVariants.{Securities, Cash}
 use Rattle.netting.specs.declared.leg.Leg.{Leg}
-use Rattle.netting.specs.Places.{at, leg_takes, leg_brings, securities_leg, cash_leg, takes, brings}
+use Rattle.netting.specs.Places.{at, place_of, leg_takes, leg_brings, leg_of, takes, brings}
 use Rattle.netting.specs.Positions.{in_package, after_posting}
-use Rattle.netting.specs.Tables.{after_in, Kept}
 use Rattle.netting.specs.Strikes.{none_short}
-use Rattle.netting.specs.Limits.{fits, Fitting}
+use Rattle.netting.specs.Limits.{fits}
+use Rattle.netting.proofs.Within.{Fitting}
 use Rattle.netting.specs.Rejoins.{leg_covered, covered, struck, can_rejoin}
 use Rattle.netting.proofs.Changes.{position_rejoined}
 use Rattle.netting.proofs.Shortage.{none_short_at, none_short_all, some_short}
+use Rattle.netting.specs.Sizes.{most_places}
+
+-- the places of securities end where those of cash begin
+abbrev first_cash : ℕ
+first_cash = place_of Cash 0 0
 
 -- the legs of a movement have no place in common
-cash_apart : (m : Movement) (p : ℕ) → p < 512 → (leg_takes (cash_leg m) p ≡ 0) × (leg_brings (cash_leg m) p ≡ 0)
+cash_apart : (m : Movement) (p : ℕ) → p < first_cash → (leg_takes (leg_of Cash m) p ≡ 0) × (leg_brings (leg_of Cash m) p ≡ 0)
 cash_apart m p h = (grind (arith, nat_tests), grind (arith, nat_tests))
 
-securities_apart : (m : Movement) (p : ℕ) → fits m ≡ true → 512 ≤ p → (leg_takes (securities_leg m) p ≡ 0) × (leg_brings (securities_leg m) p ≡ 0)
+securities_apart : (m : Movement) (p : ℕ) → fits m ≡ true → first_cash ≤ p → (leg_takes (leg_of Securities m) p ≡ 0) × (leg_brings (leg_of Securities m) p ≡ 0)
 securities_apart m p known h = (grind (arith, nat_tests), grind (arith, nat_tests))
 
 -- a covered leg leaves no amount below 0, and another leg does
@@ -40,28 +46,28 @@ module _ (amount : ℕ → ℤ) (m : Movement) (known : fits m ≡ true) where
 
   covered_keeps : (p : ℕ) → pos 0 ≤ℤ amount p → covered amount m ≡ true → pos 0 ≤ℤ left_at p
   covered_keeps p enough cover =
-      let parts = and_parts (leg_covered amount (securities_leg m)) (leg_covered amount (cash_leg m)) cover in
+      let parts = and_parts (leg_covered amount (leg_of Securities m)) (leg_covered amount (leg_of Cash m)) cover in
       ⊎_elim
-      (λ (q : p < 512). let apart = cash_apart m p q in let keeps = leg_keeps amount (securities_leg m) p enough parts.0 in omega (arith, ints))
-      (λ (q : 512 ≤ p). let apart = securities_apart m p known q in let keeps = leg_keeps amount (cash_leg m) p enough parts.1 in omega (arith, ints))
-      (cases_lt p 512)
+      (λ (q : p < first_cash). let apart = cash_apart m p q in let keeps = leg_keeps amount (leg_of Securities m) p enough parts.0 in omega (arith, ints))
+      (λ (q : first_cash ≤ p). let apart = securities_apart m p known q in let keeps = leg_keeps amount (leg_of Cash m) p enough parts.1 in omega (arith, ints))
+      (cases_lt p first_cash)
 
-  uncovered_lacks : covered amount m ≡ false → (p : ℕ) × (p < 576) × (left_at p <ℤ pos 0)
+  uncovered_lacks : covered amount m ≡ false → (p : ℕ) × (p < most_places) × (left_at p <ℤ pos 0)
   uncovered_lacks cover =
       ⊎_elim
-      (λ (q : leg_covered amount (securities_leg m) ≡ false).
-      let from = (securities_leg m).from in
-      let low : from < 512 = grind (arith, nat_tests) in
+      (λ (q : leg_covered amount (leg_of Securities m) ≡ false).
+      let from = (leg_of Securities m).from in
+      let low : from < first_cash = grind (arith, nat_tests) in
       let apart = cash_apart m from low in
-      let lacks = leg_lacks amount (securities_leg m) q in
+      let lacks = leg_lacks amount (leg_of Securities m) q in
       (from, omega arith, omega (arith, ints)))
-      (λ (q : leg_covered amount (cash_leg m) ≡ false).
-      let from = (cash_leg m).from in
-      let high : 512 ≤ from = omega arith in
+      (λ (q : leg_covered amount (leg_of Cash m) ≡ false).
+      let from = (leg_of Cash m).from in
+      let high : first_cash ≤ from = omega arith in
       let apart = securities_apart m from known high in
-      let lacks = leg_lacks amount (cash_leg m) q in
+      let lacks = leg_lacks amount (leg_of Cash m) q in
       (from, grind (arith, nat_tests), omega (arith, ints)))
-      (and_cases (leg_covered amount (securities_leg m)) (leg_covered amount (cash_leg m)) cover)
+      (and_cases (leg_covered amount (leg_of Securities m)) (leg_covered amount (leg_of Cash m)) cover)
 
 at_least : (z : ℤ) → lt_z z (pos 0) ≡ false → pos 0 ≤ℤ z
 at_least z e = grind (arith, ints)
@@ -95,11 +101,3 @@ module _ (movements : List Movement) (amounts : List ℕ) (marks : List Bool) (i
       (λ (q : struck tried marks i ≡ true). ap (λ b. struck tried marks i && b) (safe_if_covered (not-true (in_package marks i) (and_parts _ _ q).1)))
       (λ (q : struck tried marks i ≡ false). and_left _ _ q ∙ sym (and_left _ _ q))
       (cases_Bool (struck tried marks i))
-
--- coverage by a table of positions
-pub covered_in : (movements : List Movement) (amounts : List ℕ) (marks : List Bool) (table : List ℤ) (m : Movement) → fits m ≡ true → Kept movements marks table →
-    covered (after_in amounts table) m ≡ covered (after_posting movements amounts marks) m
-covered_in movements amounts marks table m known kept =
-    let securities = kept (securities_leg m).from (grind (arith, nat_tests)) in
-    let cash = kept (cash_leg m).from (grind (arith, nat_tests)) in
-    rw (securities, cash)

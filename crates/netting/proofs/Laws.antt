@@ -4,7 +4,7 @@ use Rattle.std.proofs.lemmas.Bool.{and_parts, and_from, not_from_false}
 use Rattle.movement.specs.declared.movement.Movement.{Movement}
 use Rattle.netting.specs.Strikes.{after_strikes}
 use Rattle.netting.specs.Rejoins.{settling}
-use Rattle.netting.specs.Limits.{Fitting}
+use Rattle.netting.proofs.Within.{Fitting}
 use Rattle.netting.specs.Theorems.{SomeTaker, NoneShort, StrikesEnd, NoneCovered}
 use Rattle.netting.proofs.Shortage.{short_taker, none_short_at}
 use Rattle.netting.proofs.Striking.{strikes_end}

@@ -1,8 +1,8 @@
-pub mod Lists
 pub mod Sums
 pub mod Search
 pub mod Legs
 pub mod Bounds
+pub mod Fields
 pub mod Changes
 pub mod Shortage
 pub mod Striking

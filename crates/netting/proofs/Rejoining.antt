@@ -1,14 +1,15 @@
 -- Step 2 ends, no place is short then, and no struck movement has both its legs covered.
-use Rattle.std.proofs.Common.{◌≡◌, ℕ, suc, ◌<◌, ◌≤◌, Bool, true, false, cond, ◌&&◌, List, length, set, is_some, Some, None, Option, sym, refl, ap, ◌∙◌, arith}
+use Rattle.std.proofs.Common.{◌≡◌, ℕ, suc, ◌<◌, ◌≤◌, Bool, true, false, cond, ◌&&◌, List, length, set, slice_set, Some, None, Option, sym, refl, ap, ◌∙◌, arith}
 use Rattle.std.proofs.lemmas.List.{length-set, get_or-set_same, get_or-set_other}
 use Rattle.std.proofs.lemmas.Bool.{and_parts, not-true, cond-true, cond-false}
 use Rattle.movement.specs.declared.movement.Movement.{Movement}
 use Rattle.netting.specs.Places.{at}
 use Rattle.netting.specs.Positions.{in_package, size, after_posting}
 use Rattle.netting.specs.Strikes.{none_short, marked, struck_next, strike, after_strikes}
+use Rattle.netting.specs.Held.{Held, marking, IsSafe, next_rejoined, with_rejoins}
 use Rattle.netting.specs.Rejoins.{Sound, struck, covered, can_rejoin, rejoins_next, rejoin, how_many_struck, after_rejoins}
-use Rattle.netting.specs.Limits.{Fitting}
-use Rattle.netting.proofs.Search.{first_some, first_none, found_some, found_none, ends, times_same, times_less, times_keeps}
+use Rattle.netting.proofs.Within.{Fitting}
+use Rattle.netting.proofs.Search.{first_some, first_none, ends, times_same, times_less, times_keeps}
 use Rattle.register.proofs.Sums.{sum_changed}
 use Rattle.netting.proofs.Striking.{strikes_end}
 use Rattle.netting.proofs.Covering.{rejoins_if_covered}
@@ -77,15 +78,14 @@ module _ (movements : List Movement) (amounts : List ℕ) (tried : List Bool) wh
       let kept = times_keeps (strike movements amounts) (λ w. length w ≡ length marks) (λ w e. marked_length false w (struck_next movements amounts w) ∙ e) (size movements marks) marks refl in
       record { long = omega arith; safe = strikes_end movements amounts marks fitting }
 
-  -- one rejoined, or none could
-  pub rejoined_one : (marks next : List Bool) → Sound movements amounts marks → true ≡ is_some (rejoins_next movements amounts tried marks) → next ≡ rejoin movements amounts tried marks →
-      (how_many_struck movements tried next < how_many_struck movements tried marks) × Sound movements amounts next × (after_rejoins movements amounts tried next ≡ after_rejoins movements amounts tried marks)
-  rejoined_one marks next sound found e =
-      let who = found_some (rejoins_next movements amounts tried marks) found in
-      let less = rejoin_shrinks marks who.0 sound.long who.1 in
-      rw e (omega arith, rejoin_sound marks sound, sym (times_less (rejoin movements amounts tried) (how_many_struck movements tried) marks less))
+-- one rejoined, or none could
+pub rejoined_one : (h next : Held) (i : ℕ) → IsSafe h → next_rejoined h ≡ Some i → next ≡ marking h i true →
+    (how_many_struck next.movements next.tried next.marks < how_many_struck h.movements h.tried h.marks) × IsSafe next × (with_rejoins next ≡ with_rejoins h)
+rejoined_one h next i safe found e =
+    let step : rejoin h.movements h.amounts h.tried h.marks ≡ slice_set h.marks i true = ap (marked true h.marks) found in
+    let less = rejoin_shrinks h.movements h.amounts h.tried h.marks i safe.long found in
+    let same = times_less (rejoin h.movements h.amounts h.tried) (how_many_struck h.movements h.tried) h.marks less in
+    rw e (rw (sym step) (omega arith, rejoin_sound h.movements h.amounts h.tried h.marks safe, ap (λ w. record h { marks = w }) (sym same)))
 
-  pub rejoined_none : (marks next : List Bool) → false ≡ is_some (rejoins_next movements amounts tried marks) → next ≡ rejoin movements amounts tried marks → next ≡ after_rejoins movements amounts tried marks
-  rejoined_none marks next found e =
-      let still = rejoin_still marks (found_none (rejoins_next movements amounts tried marks) found) in
-      e ∙ still ∙ sym (times_same (how_many_struck movements tried marks) (rejoin movements amounts tried) marks still)
+pub rejoined_none : (h : Held) → next_rejoined h ≡ None → h ≡ with_rejoins h
+rejoined_none h none = ap (λ w. record h { marks = w }) (sym (times_same (how_many_struck h.movements h.tried h.marks) (rejoin h.movements h.amounts h.tried) h.marks (rejoin_still h.movements h.amounts h.tried h.marks none)))

@@ -5,7 +5,7 @@ use Rattle.movement.specs.declared.movement.Movement.{Movement}
 use Rattle.netting.specs.Places.{at, only_takes}
 use Rattle.netting.specs.Positions.{in_package}
 use Rattle.netting.specs.Rejoins.{can_rejoin}
-use Rattle.netting.specs.Limits.{Bounded}
+use Rattle.netting.proofs.Within.{Bounded}
 use Rattle.netting.specs.Theorems.{HighestStruck, LowestRejoins}
 use Rattle.netting.proofs.Search.{first_some, last_some}
 

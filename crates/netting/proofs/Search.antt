@@ -1,70 +1,48 @@
 -- What searches find, and what repetition comes to.
-use Rattle.std.proofs.Common.{◌≡◌, ℕ, zero, suc, ◌+◌, ◌-◌, ◌<◌, Bool, true, false, cond, not, is_some, Some, None, Option, sym, refl, ap, ◌∙◌, ⊎_elim, add-one, arith}
-use Rattle.std.proofs.lemmas.Bool.{cases_eq, cases_Bool, cond-true, cond-false, both_ways, true≢false, false≢true}
-use Rattle.netting.specs.Search.{or_at, first_below, last_below, none_below, times}
+use Rattle.std.proofs.Common.{◌≡◌, ℕ, zero, suc, ◌<◌, ◌≤◌, Bool, true, false, cond, not, is_some, Some, None, Option, MatchOption, refl, ap, ◌∙◌, ⊎_elim, arith}
+use Rattle.std.proofs.lemmas.Bool.{cases_eq, cases_lt, cases_Bool, cond-false, both_ways, false≢true}
+use Rattle.netting.specs.Search.{or_at, first_below, last_below, none_below, FindsFirst, FindsLast, times}
 
--- n is the first that passes
-pub first_is : (passes : ℕ → Bool) (n i : ℕ) → i < n → first_below i passes ≡ None → passes i ≡ true → first_below n passes ≡ Some i
-first_is passes zero i h before here = absurd (omega arith)
-first_is passes (suc n) i h before here =
-    ⊎_elim
-    (λ (q : i ≡ n). rw (sym q) (rw before (cond-true (passes i) (Some i) None here)))
-    (λ (q : i ≡ n → ⊥). rw (first_is passes n i (omega arith) before here))
-    (cases_eq i n)
-
--- none so far, nor the next
-pub first_none_more : (passes : ℕ → Bool) (n : ℕ) → first_below n passes ≡ None → passes n ≡ false → first_below (n + 1) passes ≡ None
-first_none_more passes n before here = rw add-one (rw before (cond-false (passes n) (Some n) None here))
-
--- two tests with the same answers
-pub first_same : (passes other : ℕ → Bool) (n : ℕ) → ((i : ℕ) → i < n → passes i ≡ other i) → first_below n passes ≡ first_below n other
-first_same passes other zero same = refl
-first_same passes other (suc n) same = rw (first_same passes other n (λ i h. same i (omega arith)), same n (omega arith))
-
--- the last passes, or does not
-pub last_is : (passes : ℕ → Bool) (n : ℕ) → 0 < n → passes (n - 1) ≡ true → last_below n passes ≡ Some (n - 1)
-last_is passes zero h here = absurd (omega arith)
-last_is passes (suc n) h here =
-    let e : suc n - 1 ≡ n = omega arith in
-    rw e (cond-true (passes n) (Some n) (last_below n passes) (rw e at here))
-
-pub last_skip : (passes : ℕ → Bool) (n : ℕ) → 0 < n → passes (n - 1) ≡ false → last_below n passes ≡ last_below (n - 1) passes
-last_skip passes zero h here = absurd (omega arith)
-last_skip passes (suc n) h here =
-    let e : suc n - 1 ≡ n = omega arith in
-    rw e (cond-false (passes n) (Some n) (last_below n passes) (rw e at here))
-
--- what is known of what a search up finds
-abbrev pub First : (ℕ → Bool) → ℕ → Option ℕ → Type 0
-First passes n None = (j : ℕ) → j < n → passes j ≡ false
-First passes n (Some i) = (i < n) × (passes i ≡ true) × ((j : ℕ) → j < i → passes j ≡ false)
-
-first_more : (passes : ℕ → Bool) (n : ℕ) (found : Option ℕ) (here : Bool) → passes n ≡ here → First passes n found → First passes (suc n) (or_at found here n)
+first_more : (passes : ℕ → Bool) (n : ℕ) (found : Option ℕ) (here : Bool) → passes n ≡ here → FindsFirst n passes found → FindsFirst (suc n) passes (or_at found here n)
 first_more passes n (Some i) here e known = (omega (arith, known.0), known.1, known.2)
 first_more passes n None true e known = (omega arith, e, known)
 first_more passes n None false e known = λ j h. ⊎_elim (λ (q : j ≡ n). ap passes q ∙ e) (λ (q : j ≡ n → ⊥). known j (omega arith)) (cases_eq j n)
 
-pub first_known : (passes : ℕ → Bool) (n : ℕ) → First passes n (first_below n passes)
+pub first_known : (passes : ℕ → Bool) (n : ℕ) → FindsFirst n passes (first_below n passes)
 first_known passes zero = λ j h. absurd (omega arith)
 first_known passes (suc n) = first_more passes n (first_below n passes) (passes n) refl (first_known passes n)
 
+-- no other is found
+first_same : (passes : ℕ → Bool) (n : ℕ) (a b : Option ℕ) → FindsFirst n passes a → FindsFirst n passes b → a ≡ b
+first_same passes n None None x y = refl
+first_same passes n None (Some j) x y = absurd (both_ways _ (x j y.0) y.1)
+first_same passes n (Some i) None x y = absurd (both_ways _ (y i x.0) x.1)
+first_same passes n (Some i) (Some j) x y =
+    ⊎_elim
+    (λ (q : i ≡ j). ap Some q)
+    (λ (q : i ≡ j → ⊥). ⊎_elim (λ (l : i < j). absurd (both_ways _ (y.2 i l) x.1)) (λ (l : j ≤ i). absurd (both_ways _ (x.2 j (omega arith)) y.1)) (cases_lt i j))
+    (cases_eq i j)
+
+pub finds_first : (passes : ℕ → Bool) (m n : ℕ) (found : Option ℕ) →
+    MatchOption found ((k : ℕ) → 0 ≤ k → k < m → passes k ≡ false) (λ i. (0 ≤ i) × (i < m) × (passes i ≡ true) × ((k : ℕ) → 0 ≤ k → k < i → passes k ≡ false)) → m ≡ n → FindsFirst n passes found
+finds_first passes m n None none e = λ k h. none k (omega arith) (omega arith)
+finds_first passes m n (Some i) some e = let below = some.1 in (omega arith, some.2, λ k h. some.3 k (omega arith) h)
+
+pub first_found : (passes : ℕ → Bool) (n : ℕ) (found : Option ℕ) → FindsFirst n passes found → first_below n passes ≡ found
+first_found passes n found finds = first_same passes n _ found (first_known passes n) finds
+
 -- the same where something is known to be found, or not
-pub first_some : (passes : ℕ → Bool) (n i : ℕ) → first_below n passes ≡ Some i → First passes n (Some i)
+pub first_some : (passes : ℕ → Bool) (n i : ℕ) → first_below n passes ≡ Some i → FindsFirst n passes (Some i)
 first_some passes n i e = rw e at (first_known passes n)
 
-pub first_none : (passes : ℕ → Bool) (n : ℕ) → first_below n passes ≡ None → First passes n None
+pub first_none : (passes : ℕ → Bool) (n : ℕ) → first_below n passes ≡ None → FindsFirst n passes None
 first_none passes n e = rw e at (first_known passes n)
 
 pub first_passes_none : (passes : ℕ → Bool) (n : ℕ) → ((i : ℕ) → i < n → passes i ≡ false) → first_below n passes ≡ None
 first_passes_none passes zero each = refl
 first_passes_none passes (suc n) each = rw (first_passes_none passes n (λ i h. each i (omega arith))) (cond-false (passes n) (Some n) None (each n (omega arith)))
 
--- what is known of what a search down finds
-abbrev pub Last : (ℕ → Bool) → ℕ → Option ℕ → Type 0
-Last passes n None = (j : ℕ) → j < n → passes j ≡ false
-Last passes n (Some i) = (i < n) × (passes i ≡ true) × ((j : ℕ) → j < n → i < j → passes j ≡ false)
-
-last_more : (passes : ℕ → Bool) (n : ℕ) (found : Option ℕ) (here : Bool) → passes n ≡ here → Last passes n found → Last passes (suc n) (cond here (Some n) found)
+last_more : (passes : ℕ → Bool) (n : ℕ) (found : Option ℕ) (here : Bool) → passes n ≡ here → FindsLast n passes found → FindsLast (suc n) passes (cond here (Some n) found)
 last_more passes n found true e known = (omega arith, e, λ j h above. absurd (omega arith))
 last_more passes n None false e known = λ j h. ⊎_elim (λ (q : j ≡ n). ap passes q ∙ e) (λ (q : j ≡ n → ⊥). known j (omega arith)) (cases_eq j n)
 last_more passes n (Some i) false e known = (
@@ -73,14 +51,27 @@ last_more passes n (Some i) false e known = (
   λ j h above. ⊎_elim (λ (q : j ≡ n). ap passes q ∙ e) (λ (q : j ≡ n → ⊥). known.2 j (omega arith) above) (cases_eq j n),
 )
 
-pub last_known : (passes : ℕ → Bool) (n : ℕ) → Last passes n (last_below n passes)
+pub last_known : (passes : ℕ → Bool) (n : ℕ) → FindsLast n passes (last_below n passes)
 last_known passes zero = λ j h. absurd (omega arith)
 last_known passes (suc n) = last_more passes n (last_below n passes) (passes n) refl (last_known passes n)
 
-pub last_some : (passes : ℕ → Bool) (n i : ℕ) → last_below n passes ≡ Some i → Last passes n (Some i)
+last_same : (passes : ℕ → Bool) (n : ℕ) (a b : Option ℕ) → FindsLast n passes a → FindsLast n passes b → a ≡ b
+last_same passes n None None x y = refl
+last_same passes n None (Some j) x y = absurd (both_ways _ (x j y.0) y.1)
+last_same passes n (Some i) None x y = absurd (both_ways _ (y i x.0) x.1)
+last_same passes n (Some i) (Some j) x y =
+    ⊎_elim
+    (λ (q : i ≡ j). ap Some q)
+    (λ (q : i ≡ j → ⊥). ⊎_elim (λ (l : i < j). absurd (both_ways _ (x.2 j y.0 l) y.1)) (λ (l : j ≤ i). absurd (both_ways _ (y.2 i x.0 (omega arith)) x.1)) (cases_lt i j))
+    (cases_eq i j)
+
+pub last_found : (passes : ℕ → Bool) (n : ℕ) (found : Option ℕ) → FindsLast n passes found → last_below n passes ≡ found
+last_found passes n found finds = last_same passes n _ found (last_known passes n) finds
+
+pub last_some : (passes : ℕ → Bool) (n i : ℕ) → last_below n passes ≡ Some i → FindsLast n passes (Some i)
 last_some passes n i e = rw e at (last_known passes n)
 
-pub last_none : (passes : ℕ → Bool) (n : ℕ) → last_below n passes ≡ None → Last passes n None
+pub last_none : (passes : ℕ → Bool) (n : ℕ) → last_below n passes ≡ None → FindsLast n passes None
 last_none passes n e = rw e at (last_known passes n)
 
 -- what every step keeps
@@ -114,14 +105,6 @@ times_less step left x fall = rw fall
 nothing_found : (found : Option ℕ) → not (is_some found) ≡ true → found ≡ None
 nothing_found None e = refl
 nothing_found (Some i) e = absurd (false≢true e)
-
--- what a search found, from whether it did
-pub found_some : (found : Option ℕ) → true ≡ is_some found → (i : ℕ) × (found ≡ Some i)
-found_some None e = absurd (true≢false e)
-found_some (Some i) e = (i, refl)
-
-pub found_none : (found : Option ℕ) → false ≡ is_some found → found ≡ None
-found_none found e = nothing_found found (sym (ap not e))
 
 module _ (passes : ℕ → Bool) (n : ℕ) where
   pub none_from : first_below n passes ≡ None → none_below n passes ≡ true

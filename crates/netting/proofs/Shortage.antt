@@ -1,18 +1,17 @@
 -- Short places, and who takes from them.
-use Rattle.std.proofs.Common.{◌≡◌, ℕ, ◌+◌, ◌<◌, Bool, true, false, cond, ◌&&◌, List, length, get_or, ℤ, pos, ◌+ℤ◌, ◌-ℤ◌, refl, ap, arith}
+use Rattle.std.proofs.Common.{◌≡◌, ℕ, ◌+◌, ◌<◌, Bool, true, false, cond, ◌&&◌, List, length, get_or, pos, ◌+ℤ◌, ◌-ℤ◌, refl, arith}
 use lib.Signed.{lt_z}
 use Rattle.std.proofs.lemmas.Int.{ints}
 use Rattle.std.proofs.lemmas.Bool.{and_from}
 use Rattle.movement.specs.declared.movement.Movement.{Movement}
-use Rattle.netting.specs.Search.{first_below}
 use Rattle.netting.specs.Places.{places, at, takes, brings, only_takes}
 use Rattle.netting.specs.Positions.{in_package, brought, taken, short}
-use Rattle.netting.specs.Tables.{after_in, Kept}
-use Rattle.netting.specs.Strikes.{first_short, none_short}
-use Rattle.netting.specs.Limits.{Fitting}
+use Rattle.netting.specs.Strikes.{none_short}
+use Rattle.netting.proofs.Within.{Fitting}
 use Rattle.netting.proofs.Legs.{takes_only}
-use Rattle.netting.proofs.Search.{first_same, none_at, none_all, none_fails}
+use Rattle.netting.proofs.Search.{none_at, none_all, none_fails}
 use Rattle.netting.proofs.Sums.{sum_exceeds}
+use Rattle.netting.specs.Sizes.{most_places}
 
 -- more is taken than is there and is brought
 taken_more : (a b t : ℕ) → lt_z (pos a +ℤ (pos b -ℤ pos t)) (pos 0) ≡ true → a + b < t
@@ -32,19 +31,14 @@ module _ (movements : List Movement) (amounts : List ℕ) (marks : List Bool) wh
       (taker.0, taker.1, and_from _ _ parts.0 (takes_only (at movements taker.0) p (fitting.fit taker.0 taker.1) parts.1))
 
   -- no place is short, as a fact of each place
-  pub none_short_at : none_short movements amounts marks ≡ true → (p : ℕ) → p < 576 → short movements amounts marks p ≡ false
+  pub none_short_at : none_short movements amounts marks ≡ true → (p : ℕ) → p < most_places → short movements amounts marks p ≡ false
   unfolding places
   none_short_at = none_at (short movements amounts marks) places
 
-  pub none_short_all : ((p : ℕ) → p < 576 → short movements amounts marks p ≡ false) → none_short movements amounts marks ≡ true
+  pub none_short_all : ((p : ℕ) → p < most_places → short movements amounts marks p ≡ false) → none_short movements amounts marks ≡ true
   unfolding places
   none_short_all = none_all (short movements amounts marks) places
 
-  pub some_short : (p : ℕ) → p < 576 → short movements amounts marks p ≡ true → none_short movements amounts marks ≡ false
+  pub some_short : (p : ℕ) → p < most_places → short movements amounts marks p ≡ true → none_short movements amounts marks ≡ false
   unfolding places
   some_short = none_fails (short movements amounts marks) places
-
-  -- the first short place by a table of positions
-  pub first_short_in : (table : List ℤ) → Kept movements marks table → first_below places (λ p. lt_z (after_in amounts table p) (pos 0)) ≡ first_short movements amounts marks
-  unfolding places
-  first_short_in table kept = first_same _ _ places (λ p h. ap (λ z. lt_z (pos (get_or amounts p 0) +ℤ z) (pos 0)) (kept p h))

@@ -1,14 +1,17 @@
 -- Step 1 ends, and then no place is short.
-use Rattle.std.proofs.Common.{◌≡◌, ℕ, suc, ◌<◌, Bool, true, false, ◌&&◌, List, length, is_some, Some, None, Option, sym, refl, ◌∙◌, arith}
+use Rattle.std.proofs.Common.{◌≡◌, ℕ, suc, ◌<◌, Bool, true, false, ◌&&◌, List, length, Some, None, Option, slice_set, sym, refl, ap, ◌∙◌, arith}
 use Rattle.std.proofs.lemmas.Bool.{both_ways, and_parts}
 use Rattle.movement.specs.declared.movement.Movement.{Movement}
 use Rattle.netting.specs.Places.{places, at, only_takes}
 use Rattle.netting.specs.Positions.{in_package, size, short}
-use Rattle.netting.specs.Strikes.{chosen_at, first_short, none_short, struck_next, strike, after_strikes}
-use Rattle.netting.specs.Limits.{Fitting}
-use Rattle.netting.proofs.Search.{last_some, last_none, first_some, none_from, found_some, found_none, ends, times_same, times_less}
+use Rattle.netting.specs.Strikes.{chosen_at, marked, first_short, none_short, struck_next, strike, after_strikes}
+use Rattle.netting.specs.Held.{Held, marking, is_short, is_taker, next_struck, with_strikes}
+use Rattle.netting.specs.Search.{FindsFirst, FindsLast}
+use Rattle.netting.proofs.Within.{Fitting}
+use Rattle.netting.proofs.Search.{first_found, last_found, last_some, last_none, first_some, none_from, ends, times_same, times_less}
 use Rattle.netting.proofs.Sums.{marked_less}
 use Rattle.netting.proofs.Shortage.{short_taker}
+use Rattle.netting.specs.Sizes.{most_places}
 
 never_found : (i : ℕ) → ◌≡◌ {A = Option ℕ} None (Some i) → ⊥
 never_found i e = let z : ◌≡◌ {A = ℕ} 0 1 = cc in omega arith
@@ -49,15 +52,22 @@ module _ (movements : List Movement) (amounts : List ℕ) where
   strikes_end marks fitting =
       none_struck (after_strikes movements amounts marks) fitting (ends (struck_next movements amounts) (strike movements amounts) (size movements) (λ _. Unit {0}) strike_still (λ w i _ e. (strike_shrinks w i e, tt)) marks tt)
 
-  -- a strike was made, or none was left to make
-  pub struck_one : (marks next : List Bool) → true ≡ is_some (struck_next movements amounts marks) → next ≡ strike movements amounts marks →
-      (size movements next < size movements marks) × (after_strikes movements amounts next ≡ after_strikes movements amounts marks)
-  struck_one marks next found e =
-      let who = found_some (struck_next movements amounts marks) found in
-      let less = strike_shrinks marks who.0 who.1 in
-      rw e (omega arith, sym (times_less (strike movements amounts) (size movements) marks less))
+-- who is struck next, by what two searches find
+pub next_struck_none : (h : Held) → FindsFirst most_places (is_short h) None → next_struck h ≡ None
+unfolding places
+next_struck_none h none = ap (chosen_at h.movements h.marks) (first_found (is_short h) places None none)
 
-  pub struck_none : (marks next : List Bool) → false ≡ is_some (struck_next movements amounts marks) → next ≡ strike movements amounts marks → next ≡ after_strikes movements amounts marks
-  struck_none marks next found e =
-      let still = strike_still marks (found_none (struck_next movements amounts marks) found) in
-      e ∙ still ∙ sym (times_same (size movements marks) (strike movements amounts) marks still)
+pub next_struck_by : (h : Held) (p : ℕ) (found : Option ℕ) → FindsFirst most_places (is_short h) (Some p) → FindsLast (length h.movements) (is_taker h p) found → next_struck h ≡ found
+unfolding places
+next_struck_by h p found first last = ap (chosen_at h.movements h.marks) (first_found (is_short h) places (Some p) first) ∙ last_found (is_taker h p) (length h.movements) found last
+
+-- a strike was made, or none was left to make
+pub struck_one : (h next : Held) (i : ℕ) → next_struck h ≡ Some i → next ≡ marking h i false → (size next.movements next.marks < size h.movements h.marks) × (with_strikes next ≡ with_strikes h)
+struck_one h next i found e =
+    let step : strike h.movements h.amounts h.marks ≡ slice_set h.marks i false = ap (marked false h.marks) found in
+    let less = strike_shrinks h.movements h.amounts h.marks i found in
+    let same = times_less (strike h.movements h.amounts) (size h.movements) h.marks less in
+    rw e (rw (sym step) (omega arith, ap (λ w. record h { marks = w }) (sym same)))
+
+pub struck_none : (h : Held) → next_struck h ≡ None → h ≡ with_strikes h
+struck_none h none = ap (λ w. record h { marks = w }) (sym (times_same (size h.movements h.marks) (strike h.movements h.amounts) h.marks (strike_still h.movements h.amounts h.marks none)))

@@ -1,11 +1,10 @@
 -- Sums over the numbers below a number, and over those that are marked.
-use Rattle.std.proofs.Common.{◌≡◌, ℕ, zero, suc, ◌+◌, ◌<◌, ◌≤◌, Bool, true, false, cond, List, length, set, sym, refl, ap, ◌∙◌, ⊎_elim, arith}
-use Rattle.std.proofs.lemmas.Bool.{cases_lt, cond-true, cond-false}
-use Rattle.std.proofs.lemmas.List.{get_or-set_same, get_or-set_other}
+use Rattle.std.proofs.Common.{◌≡◌, ℕ, zero, suc, ◌+◌, ◌<◌, ◌≤◌, Bool, true, false, cond, List, length, get_or, set, sym, refl, ap, ◌∙◌, ⊎_elim, arith}
+use Rattle.std.proofs.lemmas.Bool.{cases_lt, both_ways, cond-true, cond-false}
+use Rattle.std.proofs.lemmas.List.{get_or-set_same, get_or-set_other, get_or_past}
 use Rattle.register.specs.Holdings.{sum_below}
 use Rattle.register.proofs.Sums.{sum_changed}
 use Rattle.netting.specs.Positions.{sum_marked, in_package}
-use Rattle.netting.proofs.Lists.{marked_within}
 
 -- where one sum is larger than another, so is one of its terms
 pub sum_exceeds : (f g : ℕ → ℕ) (n : ℕ) → sum_below n f < sum_below n g → (i : ℕ) × (i < n) × (f i < g i)
@@ -28,6 +27,11 @@ sum_of_none (suc n) = omega (arith, sum_of_none n)
 pub sum_exchanged : (f : ℕ → ℕ → ℕ) (m n : ℕ) → sum_below m (λ i. sum_below n (f i)) ≡ sum_below n (λ j. sum_below m (λ i. f i j))
 sum_exchanged f zero n = sym (sum_of_none n)
 sum_exchanged f (suc m) n = ap (λ s. s + sum_below n (f m)) (sum_exchanged f m n) ∙ sym (sum_of_both (λ j. sum_below m (λ i. f i j)) (f m) n)
+
+-- a mark that is set stands within the list
+pub marked_within : (marks : List Bool) (i : ℕ) → get_or marks i false ≡ true → i < length marks
+marked_within marks i e =
+    ⊎_elim (λ (q : i < length marks). q) (λ (q : length marks ≤ i). absurd (both_ways (get_or marks i false) (get_or_past marks i false q) e)) (cases_lt i (length marks))
 
 -- a movement more in the package
 pub marked_more : (n : ℕ) (marks : List Bool) (f : ℕ → ℕ) (i : ℕ) → i < n → i < length marks → in_package marks i ≡ false → sum_marked n (set marks i true) f ≡ sum_marked n marks f + f i

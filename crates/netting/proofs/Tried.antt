@@ -7,7 +7,7 @@ use Rattle.netting.specs.Positions.{in_package, size}
 use Rattle.netting.specs.Strikes.{marked, struck_next, strike, after_strikes}
 use Rattle.netting.specs.Rejoins.{rejoins_next, rejoin, how_many_struck, settling}
 use Rattle.netting.specs.Theorems.{OnlyTried}
-use Rattle.netting.proofs.Lists.{marked_within}
+use Rattle.netting.proofs.Sums.{marked_within}
 use Rattle.netting.proofs.Search.{times_keeps}
 use Rattle.netting.proofs.Rejoining.{rejoins}
 

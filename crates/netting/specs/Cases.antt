@@ -1,9 +1,12 @@
 -- Worked cases: who settles, given the movements and what accounts hold.
+-- Stays: the new form is no plainer; a constant may call no function, so a table for these and src/tests.rt would be rows of nine bare numbers, each made a movement by either.
 use Rattle.std.specs.Prelude.{◌≡◌, ℕ, Bool, true, false, List, [], ◌∷◌, length, replicate, slice_set}
 use Rattle.movement.specs.declared.movement.Movement.{Movement}
 use Rattle.movement.specs.declared.class.Class.TheVariants.{Central}
-use Rattle.netting.specs.Places.{place, cash_row}
+use Rattle.movement.specs.declared.side.Side.TheVariants.{Securities, Cash}
+use Rattle.netting.specs.Places.{place_of}
 use Rattle.netting.specs.Rejoins.{settling}
+use Rattle.netting.specs.Sizes.{most_places}
 
 pub record Case : Type 0 where
   pub movements : List Movement
@@ -13,7 +16,7 @@ pub record Case : Type 0 where
   pub settles : List Bool
 
 abbrev pub holding : List (ℕ × ℕ) → List ℕ
-holding [] = replicate 576 0
+holding [] = replicate most_places 0
 holding (h ∷ held) = slice_set (holding held) h.0 h.1
 
 -- all movements of the case are tried
@@ -45,13 +48,13 @@ trade number quantity sum first second = moving number 0 quantity first second 0
 
 -- the places of an account: of security 0 and of both currencies
 abbrev pieces : ℕ → ℕ
-pieces = place 0
+pieces = place_of Securities 0
 
 abbrev litas : ℕ → ℕ
-litas = place (cash_row 0)
+litas = place_of Cash 0
 
 abbrev euro : ℕ → ℕ
-euro = place (cash_row 1)
+euro = place_of Cash 1
 
 -- account 1 sells to account 2, which sells on to account 3; account 1 holds this much
 abbrev chain : ℕ → List Bool → Case

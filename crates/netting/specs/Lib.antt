@@ -1,3 +1,4 @@
+pub mod Sizes
 pub mod Search
 pub mod Places
 pub mod Positions
@@ -5,5 +6,7 @@ pub mod Strikes
 pub mod Rejoins
 pub mod Limits
 pub mod Tables
+pub mod Held
+pub mod Package
 pub mod Theorems
 pub mod Cases

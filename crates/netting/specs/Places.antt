@@ -3,40 +3,46 @@ use Rattle.std.specs.Prelude.{ℕ, ◌+◌, ◌*◌, Bool, false, cond, ◌&&◌
 use Rattle.movement.specs.declared.movement.Movement.{Movement}
 use Rattle.movement.specs.declared.class.Class.TheVariants.{Central}
 use Rattle.movement.specs.Movements.{giver, receiver, payer, payee}
+use Rattle.movement.specs.declared.side.Side.{Side}
+use Rattle.movement.specs.declared.side.Side.TheVariants.{Securities, Cash}
 use Rattle.netting.specs.declared.leg.Leg.{Leg}
+use Rattle.movement.specs.Limits.{most_accounts, most_securities}
+use Rattle.netting.specs.Sizes.{most_places}
 
 -- how many accounts a kind has places for
 unfoldable pub accounts : ℕ
-accounts = 32
+accounts = most_accounts
 
 -- how many places there are: 16 kinds of securities, then 2 of cash
 unfoldable pub places : ℕ
-places = 576
+places = most_places
 
 -- the place of an account: rows 0 to 15 are the kinds of securities, rows 16 and 17 those of cash
 abbrev pub place : ℕ → ℕ → ℕ
-place row account = 32 * row + account
+place row account = most_accounts * row + account
 
-abbrev pub cash_row : ℕ → ℕ
-cash_row currency = 16 + currency
+-- the row of a kind
+abbrev pub row_of : Side → ℕ → ℕ
+row_of Securities kind = kind
+row_of Cash kind = most_securities + kind
 
-abbrev pub securities_leg : Movement → Leg
-securities_leg m = record {
-  from = place m.security (giver m);
-  to = place m.security (receiver m);
+abbrev pub place_of : Side → ℕ → ℕ → ℕ
+place_of side kind account = place (row_of side kind) account
+
+-- the two legs of a movement
+abbrev pub leg_of : Side → Movement → Leg
+leg_of Securities m = record {
+  from = place_of Securities m.security (giver m);
+  to = place_of Securities m.security (receiver m);
   amount = m.quantity;
 }
-
-abbrev pub cash_leg : Movement → Leg
-cash_leg m = record {
-  from = place (cash_row m.currency) (payer m);
-  to = place (cash_row m.currency) (payee m);
+leg_of Cash m = record {
+  from = place_of Cash m.currency (payer m);
+  to = place_of Cash m.currency (payee m);
   amount = m.sum;
 }
 
-abbrev pub reversed : Leg → Leg
-reversed leg = record { from = leg.to; to = leg.from; amount = leg.amount }
-
+-- what a leg takes from a place, and what it brings to it
 abbrev pub leg_takes : Leg → ℕ → ℕ
 leg_takes leg p = cond (p == leg.from) leg.amount 0
 
@@ -45,11 +51,11 @@ leg_brings leg p = cond (p == leg.to) leg.amount 0
 
 -- what a movement takes from a place
 abbrev pub takes : Movement → ℕ → ℕ
-takes m p = leg_takes (securities_leg m) p + leg_takes (cash_leg m) p
+takes m p = leg_takes (leg_of Securities m) p + leg_takes (leg_of Cash m) p
 
 -- what a movement brings to a place
 abbrev pub brings : Movement → ℕ → ℕ
-brings m p = leg_brings (securities_leg m) p + leg_brings (cash_leg m) p
+brings m p = leg_brings (leg_of Securities m) p + leg_brings (leg_of Cash m) p
 
 -- it takes from the place without bringing to it
 abbrev pub only_takes : Movement → ℕ → Bool

@@ -3,7 +3,8 @@ use Rattle.std.specs.Prelude.{◌≡◌, ℕ, ◌≤◌, Bool, true, cond, not, 
 use Rattle.movement.specs.declared.movement.Movement.{Movement}
 use Rattle.netting.specs.declared.leg.Leg.{Leg}
 use Rattle.netting.specs.Search.{first_below, times}
-use Rattle.netting.specs.Places.{securities_leg, cash_leg}
+use Rattle.movement.specs.declared.side.Side.TheVariants.{Securities, Cash}
+use Rattle.netting.specs.Places.{leg_of}
 use Rattle.netting.specs.Positions.{in_package, sum_marked}
 use Rattle.netting.specs.Strikes.{marked, none_short, after_strikes}
 
@@ -21,7 +22,7 @@ abbrev pub leg_covered : (ℕ → ℤ) → Leg → Bool
 leg_covered amount leg = leg.from == leg.to || int_le (pos leg.amount) (amount leg.from)
 
 abbrev pub covered : (ℕ → ℤ) → Movement → Bool
-covered amount m = leg_covered amount (securities_leg m) && leg_covered amount (cash_leg m)
+covered amount m = leg_covered amount (leg_of Securities m) && leg_covered amount (leg_of Cash m)
 
 abbrev pub can_rejoin : List Movement → List ℕ → List Bool → List Bool → ℕ → Bool
 can_rejoin movements amounts tried marks i = struck tried marks i && none_short movements amounts (slice_set marks i true)

@@ -1,5 +1,5 @@
 -- Searches and repetition over the numbers below a number.
-use Rattle.std.specs.Prelude.{ℕ, zero, suc, Bool, cond, not, is_some, Some, None, Option}
+use Rattle.std.specs.Prelude.{◌≡◌, ℕ, zero, suc, ◌<◌, true, false, Bool, cond, not, is_some, Some, None, Option, MatchOption}
 
 -- what was found before, else n where it passes
 abbrev pub or_at : Option ℕ → Bool → ℕ → Option ℕ
@@ -19,6 +19,16 @@ last_below (suc n) passes = cond (passes n) (Some n) (last_below n passes)
 -- whether no number below n passes
 abbrev pub none_below : ℕ → (ℕ → Bool) → Bool
 none_below n passes = not (is_some (first_below n passes))
+
+-- what a search up finds of the numbers below n: the first that passes, or none where none passes
+abbrev pub FindsFirst : ℕ → (ℕ → Bool) → Option ℕ → Type 0
+FindsFirst n passes found =
+    MatchOption found ((k : ℕ) → k < n → passes k ≡ false) (λ i. (i < n) × (passes i ≡ true) × ((k : ℕ) → k < i → passes k ≡ false))
+
+-- what a search down finds of them: the last
+abbrev pub FindsLast : ℕ → (ℕ → Bool) → Option ℕ → Type 0
+FindsLast n passes found =
+    MatchOption found ((k : ℕ) → k < n → passes k ≡ false) (λ i. (i < n) × (passes i ≡ true) × ((k : ℕ) → k < n → i < k → passes k ≡ false))
 
 -- a step taken n times
 abbrev pub times : {X : Type 0} → ℕ → (X → X) → X → X

@@ -1,5 +1,5 @@
 -- What holds of the two steps.
-use Rattle.std.specs.Prelude.{◌≡◌, ℕ, ◌<◌, ◌≤◌, Bool, true, false, List, length, Some}
+use Rattle.std.specs.Prelude.{◌≡◌, ℕ, ◌+◌, ◌<◌, ◌≤◌, Bool, true, false, List, length, Some}
 use Rattle.register.specs.Holdings.{sum_below}
 use Rattle.movement.specs.declared.movement.Movement.{Movement}
 use Rattle.netting.specs.Search.{times}
@@ -7,6 +7,8 @@ use Rattle.netting.specs.Places.{accounts, place, at, only_takes}
 use Rattle.netting.specs.Positions.{in_package, size, brought, taken, after_posting, short}
 use Rattle.netting.specs.Strikes.{first_short, struck_next, strike}
 use Rattle.netting.specs.Rejoins.{covered, can_rejoin, rejoins_next}
+use Rattle.movement.specs.Limits.{currencies, most_securities}
+use Rattle.netting.specs.Sizes.{most_places}
 
 module _ (movements : List Movement) (amounts : List ℕ) where
   -- where a place is short, some movement of the package takes from it without bringing to it
@@ -14,7 +16,7 @@ module _ (movements : List Movement) (amounts : List ℕ) where
   SomeTaker = (marks : List Bool) (p : ℕ) → short movements amounts marks p ≡ true → (i : ℕ) × (i < length movements) × (in_package marks i ≡ true) × (only_takes (at movements i) p ≡ true)
 
   abbrev pub NoneShort : List Bool → Type 0
-  NoneShort marks = (p : ℕ) → p < 576 → short movements amounts marks p ≡ false
+  NoneShort marks = (p : ℕ) → p < most_places → short movements amounts marks p ≡ false
 
   -- step 1 ends within as many strikes as the package has movements
   abbrev pub StrikesEnd : Type 0
@@ -38,4 +40,4 @@ OnlyTried tried marks = (i : ℕ) → in_package marks i ≡ true → in_package
 
 -- of each kind as much is brought, over all accounts, as is taken
 abbrev pub Balanced : List Movement → List Bool → Type 0
-Balanced movements marks = (row : ℕ) → row < 18 → sum_below accounts (λ account. brought movements marks (place row account)) ≡ sum_below accounts (λ account. taken movements marks (place row account))
+Balanced movements marks = (row : ℕ) → row < most_securities + currencies → sum_below accounts (λ account. brought movements marks (place row account)) ≡ sum_below accounts (λ account. taken movements marks (place row account))

@@ -1,19 +1,17 @@
-// Netting: which movements of a package settle.
+//! Netting: which movements of a package settle.
 #![tactic(auto)]
 
 mod cases;
 mod leg;
 mod limits;
-mod net;
+mod package;
 mod places;
 mod positions;
-mod rejoins;
-mod steps;
-mod strikes;
+mod settle;
 #[cfg(test)]
 mod tests;
 
-pub use net::MOVEMENTS;
-pub use places::{PLACES, cash_place, securities_place};
+pub use limits::MOVEMENTS;
+pub use places::{PLACES, place_of};
 pub use positions::position;
-pub use steps::settling;
+pub use settle::settling;

@@ -1,34 +1,34 @@
-// What the netting takes.
-ghost use Rattle.std.specs.Prelude.{◌≡◌, ◌-◌, true, length};
+//! What the netting takes.
+ghost use Rattle.std.specs.Prelude.{◌≡◌, ◌-◌, length};
+ghost use Rattle.std.specs.List.{list_all};
 ghost use Rattle.netting.specs.Search.{none_below};
-ghost use Rattle.netting.specs.Places.{places};
-ghost use Rattle.netting.specs.Limits.{known_accounts, known_kinds, amounts_fit, fits as fits_limits, misfits, falls, too_large, fitting as fitting_of, bounded, Fitting, Bounded};
+ghost use Rattle.netting.specs.Limits.{known_accounts, known_kinds, amounts_fit, fits as fits_limits, falls, fitting as fitting_of, small, bounded};
 
-use crate::net::MOVEMENTS;
 use crate::places::PLACES;
-use movement::{Movement, Party};
+use movement::{
+    CURRENCIES, MAX_ACCOUNTS, MAX_MOVED, MAX_MOVEMENTS, MAX_SECURITIES, Movement, Party,
+};
+use register::LIMIT;
 
-// The most that a movement moves, and the most that a place holds.
-const MOST_MOVED: u64 = 1_000_000_000_000;
-
-const MOST_HELD: u64 = 1_000_000_000_000_000;
+/// The most movements that a package has.
+pub const MOVEMENTS: usize = MAX_MOVEMENTS;
 
 fn accounts_known(party: &Party) -> bool
     ensures { result ≡ known_accounts party.now }
 {
-    party.securities < 32 && party.cash < 32
+    usize::from(party.securities) < MAX_ACCOUNTS && usize::from(party.cash) < MAX_ACCOUNTS
 }
 
 fn amounts_fit(m: &Movement) -> bool
     ensures { result ≡ amounts_fit m.now }
 {
-    m.quantity <= MOST_MOVED && m.sum <= MOST_MOVED
+    m.quantity <= MAX_MOVED && m.sum <= MAX_MOVED
 }
 
 fn kinds_known(m: &Movement) -> bool
     ensures { result ≡ known_kinds m.now }
 {
-    m.security < 16 && m.currency < 2
+    usize::from(m.security) < MAX_SECURITIES && usize::from(m.currency) < CURRENCIES
 }
 
 fn fits(m: &Movement) -> bool
@@ -38,51 +38,35 @@ fn fits(m: &Movement) -> bool
 }
 
 fn all_fit(movements: &[Movement]) -> bool
-    ensures { result ≡ none_below (length movements.now) (misfits movements.now) }
+    ensures { result ≡ list_all fits_limits movements.now }
 {
-    for m in movements {
-        if !fits(m) {
-            return false;
-        }
-    }
-    true
+    movements.iter().all(fits)
 }
 
-// Whether the numbers rise.
 fn all_rise(movements: &[Movement]) -> bool
     ensures { result ≡ none_below (length movements.now - 1) (falls movements.now) }
 {
-    for i in 1..movements.len() {
-        if movements[i].number <= movements[i - 1].number {
-            return false;
-        }
-    }
-    true
+    movements
+        .windows(2)
+        .all(|pair| pair[0].number < pair[1].number)
 }
 
 fn all_small(amounts: &[u64; PLACES]) -> bool
-    ensures { result ≡ none_below places (too_large amounts.now) }
+    ensures { result ≡ small amounts.now }
 {
-    for amount in amounts {
-        if *amount > MOST_HELD {
-            return false;
-        }
-    }
-    true
+    amounts.iter().all(|amount| *amount <= LIMIT)
 }
 
-// Whether the movements can be netted, whatever their order.
+/// Whether the movements can be netted, whatever their order.
 pub fn fitting(movements: &[Movement]) -> bool
-    ensures test { result ≡ fitting_of movements.now }
-    ensures facts { result ≡ true → Fitting movements.now }
+    ensures { result ≡ fitting_of movements.now }
 {
     movements.len() <= MOVEMENTS && all_fit(movements)
 }
 
-// Whether movements and amounts are within the limits.
+/// Whether movements and amounts are within the limits.
 pub fn within_limits(movements: &[Movement], amounts: &[u64; PLACES]) -> bool
-    ensures test { result ≡ bounded movements.now amounts.now }
-    ensures facts { result ≡ true → Bounded movements.now amounts.now }
+    ensures { result ≡ bounded movements.now amounts.now }
 {
     fitting(movements) && all_rise(movements) && all_small(amounts)
 }

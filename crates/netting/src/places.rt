@@ -1,18 +1,19 @@
-// The places: one for each account of each kind.
+//! The places: one for each account of each kind.
 ghost use Rattle.std.specs.Prelude.{◌≡◌};
-ghost use Rattle.netting.specs.Places.{place, cash_row};
+ghost use Rattle.netting.specs.Places.{place_of};
 
-// How many places there are: 32 accounts of 16 kinds of securities and 2 of cash.
-pub const PLACES: usize = 576;
+use movement::{CURRENCIES, MAX_ACCOUNTS, MAX_SECURITIES, Side};
 
-pub fn securities_place(kind: u8, account: u8) -> usize
-    ensures { result ≡ place kind account }
+/// How many places there are: the accounts of each kind of securities, then of each kind of cash.
+pub const PLACES: usize = MAX_ACCOUNTS * (MAX_SECURITIES + CURRENCIES);
+
+/// The place of an account of a kind of securities or of cash.
+pub fn place_of(side: Side, kind: u8, account: u8) -> usize
+    ensures { result ≡ place_of side kind account }
 {
-    32 * usize::from(kind) + usize::from(account)
-}
-
-pub fn cash_place(currency: u8, account: u8) -> usize
-    ensures { result ≡ place (cash_row currency) account }
-{
-    32 * (16 + usize::from(currency)) + usize::from(account)
+    let row = match side {
+        Side::Securities => usize::from(kind),
+        Side::Cash => MAX_SECURITIES + usize::from(kind),
+    };
+    MAX_ACCOUNTS * row + usize::from(account)
 }

@@ -1,91 +1,86 @@
-// Positions of places, kept up to date.
-ghost use Rattle.std.specs.Prelude.{◌≡◌, ℕ, ◌+◌, ◌<◌, true, ◌&&◌, pos, ◌+ℤ◌, is_some, IfSome, if◌then◌else◌, nat_eq, nat_lt, slice_index_or};
+//! What a package brings to places and takes from them.
+ghost use Rattle.std.specs.Prelude.{◌≡◌, ℕ, ◌+◌, ◌<◌, ◌≤◌, IsTrue, ◌&&◌, pos, ◌+ℤ◌, is_some, IfSome, if◌then◌else◌, nat_eq, nat_lt, slice_index_or};
+ghost use Rattle.netting.specs.Sizes.{most_places};
 ghost use Rattle.netting.specs.Places.{leg_takes, leg_brings, takes, brings};
 ghost use Rattle.netting.specs.Positions.{position as position_of};
-ghost use Rattle.netting.specs.Limits.{Fitting, fits, fitting as fitting_of};
-ghost use Rattle.netting.specs.Tables.{Kept, Posted, Near, Roomy, LegFits};
+ghost use Rattle.netting.specs.Limits.{fits, fitting as fitting_of};
+ghost use Rattle.netting.specs.Tables.{Kept, Posted, IsNear, IsRoomy, LegFits, most_legs, signed as signed_of};
 
 use crate::leg::Leg;
-use crate::limits::fitting;
-use crate::net::MOVEMENTS;
+use crate::limits::{MOVEMENTS, fitting};
 use crate::places::PLACES;
-use movement::Movement;
+use movement::{MAX_MOVED, Movement, Side};
 
-// Raises one position.
-fn shift(positions: &mut [i64; PLACES], place: usize, by: i64)
-    requires place { place < 576 }
-    requires room { Near 3000000000000000 (slice_index_or positions.old place (pos 0)) }
-    requires small { Near 1000000000000 by }
-    ensures { (p : ℕ) → slice_index_or positions.new p (pos 0) ≡ slice_index_or positions.old p (pos 0) +ℤ (if nat_eq p place then by else pos 0) }
+// An amount as it stands, or taken back.
+fn signed(amount: u64, inside: bool) -> i64
+    requires { amount ≤ MAX_MOVED }
+    ensures { result ≡ signed_of inside (pos amount) }
 {
-    positions[place] += by;
+    if inside {
+        amount as i64
+    } else {
+        -(amount as i64)
+    }
 }
 
-// Takes a leg's amount from one place and brings it to the other.
-fn post(positions: &mut [i64; PLACES], leg: Leg)
+// Raises one amount.
+fn shift(amounts: &mut [i64; PLACES], place: usize, by: i64)
+    requires place { place < PLACES }
+    requires room { IsNear (most_legs + 2) (slice_index_or amounts.old place (pos 0)) }
+    requires small { IsNear 1 by }
+    ensures { (p : ℕ) → slice_index_or amounts.new p (pos 0)
+        ≡ slice_index_or amounts.old p (pos 0) +ℤ (if nat_eq p place then by else pos 0) }
+{
+    amounts[place] += by;
+}
+
+// Takes a leg's amount from one place and brings it to the other, or back where it leaves.
+fn post_leg(amounts: &mut [i64; PLACES], leg: Leg, inside: bool)
     requires fits { LegFits leg }
-    requires room { (p : ℕ) → p < 576 → Near 2000000000000000 (slice_index_or positions.old p (pos 0)) }
-    ensures { Posted positions.old positions.new (leg_brings leg) (leg_takes leg) }
+    requires room { IsRoomy (most_legs + 1) amounts.old }
+    ensures { Posted amounts.old amounts.new inside (leg_brings leg) (leg_takes leg) }
 {
-    let amount = leg.amount as i64;
-    shift(positions, leg.from, -amount);
-    shift(positions, leg.to, amount);
+    shift(amounts, leg.from, signed(leg.amount, !inside));
+    shift(amounts, leg.to, signed(leg.amount, inside));
 }
 
-// Posts the two legs of a movement.
-fn post_both(positions: &mut [i64; PLACES], securities: Leg, cash: Leg)
-    requires securities { LegFits securities }
-    requires cash { LegFits cash }
-    requires room { Roomy positions.old }
-    ensures { Posted positions.old positions.new (λ p. leg_brings securities p + leg_brings cash p) (λ p. leg_takes securities p + leg_takes cash p) }
+/// Posts both legs of a movement, as it enters the package or leaves it.
+pub fn post(amounts: &mut [i64; PLACES], m: &Movement, inside: bool)
+    requires fits { IsTrue (fits m.now) }
+    requires room { IsRoomy most_legs amounts.old }
+    ensures { Posted amounts.old amounts.new inside (brings m.now) (takes m.now) }
 {
-    post(positions, securities);
-    post(positions, cash);
+    post_leg(amounts, Leg::of(m, Side::Securities), inside);
+    post_leg(amounts, Leg::of(m, Side::Cash), inside);
 }
 
-// Enters a movement into the positions.
-pub fn enter(positions: &mut [i64; PLACES], m: &Movement)
-    requires fits { fits m.now ≡ true }
-    requires room { Roomy positions.old }
-    ensures { Posted positions.old positions.new (brings m.now) (takes m.now) }
+/// What each place has after a package is posted, by what it had before.
+pub fn posted(
+    before: [i64; PLACES],
+    movements: &[Movement],
+    marks: &[bool; MOVEMENTS],
+) -> [i64; PLACES]
+    requires room { IsRoomy 0 before }
+    requires fitting { IsTrue (fitting_of movements.now) }
+    ensures { Kept (λ p. slice_index_or before p (pos 0)) movements.now marks.now result }
 {
-    post_both(positions, Leg::of_securities(m), Leg::of_cash(m));
-}
-
-// Takes a movement out of the positions.
-pub fn leave(positions: &mut [i64; PLACES], m: &Movement)
-    requires fits { fits m.now ≡ true }
-    requires room { Roomy positions.old }
-    ensures { Posted positions.old positions.new (takes m.now) (brings m.now) }
-{
-    post_both(
-        positions,
-        Leg::of_securities(m).reversed(),
-        Leg::of_cash(m).reversed(),
-    );
-}
-
-// The positions of all places under a package.
-pub fn positions_of(movements: &[Movement], marks: &[bool; MOVEMENTS]) -> [i64; PLACES]
-    requires { Fitting movements.now }
-    ensures { Kept movements.now marks.now result }
-{
-    let mut positions = [0; PLACES];
-    for (i, m) in movements.iter().enumerate() {
-        if marks[i] {
-            enter(&mut positions, m);
+    let mut amounts = before;
+    for (m, inside) in movements.iter().zip(marks) {
+        if *inside {
+            post(&mut amounts, m, true);
         }
     }
-    positions
+    amounts
 }
 
-// The position of a place under a package.
+/// The position of a place under a package. None past the last place, or where the movements cannot
+/// be netted.
 pub fn position(movements: &[Movement], marks: &[bool; MOVEMENTS], place: usize) -> Option<i64>
-    ensures answered { is_some result ≡ (nat_lt place 576 && fitting_of movements.now) }
+    ensures answered { is_some result ≡ (nat_lt place most_places && fitting_of movements.now) }
     ensures value { IfSome result (λ z. z ≡ position_of movements.now marks.now place) }
 {
     if place < PLACES && fitting(movements) {
-        Some(positions_of(movements, marks)[place])
+        Some(posted([0; PLACES], movements, marks)[place])
     } else {
         None
     }

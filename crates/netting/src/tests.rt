@@ -1,6 +1,8 @@
-// The worked cases through the code, and the number of movements at its limits.
-use crate::{MOVEMENTS, PLACES, cash_place, position, securities_place, settling};
-use movement::{Class, Movement, Party};
+//! The worked cases through the code, and the number of movements at its limits.
+// Stays: the new form is no plainer; a constant may call no function, so a table for these tests
+// and specs/Cases.antt would be rows of nine bare numbers, each made a movement by either.
+use crate::{MOVEMENTS, PLACES, place_of, position, settling};
+use movement::{Class, Movement, Party, Side};
 use std::test::Fail;
 
 // The accounts of a movement: giver, receiver, payer, payee.
@@ -52,11 +54,11 @@ fn trade(number: u32, quantity: u64, sum: u64, first: u8, second: u8) -> Movemen
 }
 
 fn litas(account: u8, amount: u64) -> (usize, u64) {
-    (cash_place(0, account), amount)
+    (place_of(Side::Cash, 0, account), amount)
 }
 
 fn pieces(account: u8, amount: u64) -> (usize, u64) {
-    (securities_place(0, account), amount)
+    (place_of(Side::Securities, 0, account), amount)
 }
 
 // The amounts of all places, where only some hold something.
@@ -138,7 +140,7 @@ fn both_currencies(rt: HostRuntime) -> Result<(), Fail> {
         &[
             pieces(1, 15),
             litas(3, 49),
-            (cash_place(1, 3), 49),
+            (place_of(Side::Cash, 1, 3), 49),
             litas(4, 50),
         ],
     )?;
@@ -177,11 +179,11 @@ fn one_movement(rt: HostRuntime) -> Result<(), Fail> {
     let short = settles(&movements, &[pieces(1, 5), litas(2, 49)])?;
     assert!(rt; !short[0]);
     assert_eq!(rt;
-        position(&movements, &[true; MOVEMENTS], cash_place(0, 2)).ok_or("refused")?,
+        position(&movements, &[true; MOVEMENTS], place_of(Side::Cash, 0, 2)).ok_or("refused")?,
         -50
     );
     assert_eq!(rt;
-        position(&movements, &[false; MOVEMENTS], cash_place(0, 2)).ok_or("refused")?,
+        position(&movements, &[false; MOVEMENTS], place_of(Side::Cash, 0, 2)).ok_or("refused")?,
         0
     );
     Ok(())

@@ -2,5 +2,4 @@ mod Alike
 mod Parts
 mod Places
 pub mod Sums
-pub mod TableRows
 pub mod Zeros

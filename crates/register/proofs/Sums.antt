@@ -43,10 +43,6 @@ pub sum_by-range_with_len : (f : ℕ → ℕ) (n : ℕ) → sum_by f (range_with
 sum_by-range_with_len f zero = refl
 sum_by-range_with_len f (suc n) = omega (arith, range_more f 0 n n (omega arith), sum_by-range_with_len f n)
 
--- what all accounts hold, added up from the first account on
-pub total-sum_below : (h : Holdings) (k : ℕ) → total h k ≡ sum_below h.accounts (h.amount k)
-total-sum_below h k = sum_by-range_with_len (h.amount k) h.accounts
-
 -- one term changed
 pub range_changed : (f g : ℕ → ℕ) (n i : ℕ) → i < n → ((j : ℕ) → j < n → (j ≡ i → ⊥) → g j ≡ f j) →
     sum_by g (range_with_len 0 n) + f i ≡ sum_by f (range_with_len 0 n) + g i

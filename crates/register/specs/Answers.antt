@@ -20,12 +20,15 @@ known_answer h k a = unless_unknown h k a (Ok tt)
 abbrev pub entry_answer : Holdings → ℕ → ℕ → Entry → Result Unit Refusal
 entry_answer h k a e = unless_unknown h k a (room_for (h.amount k a) e)
 
+-- .. to an amount put
 abbrev pub put_answer : Holdings → ℕ → ℕ → ℕ → Result Unit Refusal
 put_answer h k a n = entry_answer h k a (putting n)
 
+-- .. to an amount taken
 abbrev pub take_answer : Holdings → ℕ → ℕ → ℕ → Result Unit Refusal
 take_answer h k a n = entry_answer h k a (taking n)
 
+-- what is answered to a transfer
 abbrev pub transfer_answer : Holdings → ℕ → ℕ → ℕ → ℕ → Result Unit Refusal
 transfer_answer h k from to n =
     refuses (nat_le h.kinds k) UnknownKind

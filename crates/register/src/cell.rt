@@ -8,6 +8,7 @@ ghost use Rattle.std.proofs.Common.{rules};
 use crate::entry::Entry;
 use crate::register::LIMIT;
 
+/// What a register asks of its rows, whatever a row looks like.
 pub trait Cell: Copy {
     ghost use Rattle.register.specs.declared.entry.Entry.{Entry};
 
@@ -23,21 +24,26 @@ pub trait Cell: Copy {
     /// The row of an account on which nothing has been entered.
     ghost empty: { Self };
 
+    /// What the row counts as.
     fn amount(&self) -> u64
         ensures { result ≡ amount self.now };
 
+    /// The row after an entry for which there is room.
     fn with_entry(self, entry: Entry) -> Self
         requires { room_for (amount self) entry ≡ Ok tt }
         ensures row { result ≡ with_entry self entry }
         ensures amount { amount result ≡ amount_after (amount self) entry }
         ensures kept { kept result };
 
+    /// A row that counts for nothing.
     fn empty() -> Self
         ensures row { result ≡ empty }
         ensures amount { amount result ≡ 0 };
 
+    /// No row counts for more than a register may show.
     ghost bounded: { (x : Self) → amount x ≤ limit };
 
+    /// A copy of a row is the row.
     ghost copied: { (x y : Self) → Self.is_clone x y → y ≡ x };
 }
 

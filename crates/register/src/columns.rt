@@ -11,6 +11,7 @@ use crate::register::LIMIT;
 /// No column that a register writes is larger.
 pub const COLUMN_LIMIT: u64 = 1_000_000_000_000_000_000;
 
+/// Any two numbers are columns: what they count as is their balance, from 0 to the limit.
 #[derive(Clone, Copy, PartialEq, Eq, Debug)]
 pub struct Columns {
     pub credits: u64,

@@ -6,6 +6,7 @@ ghost use Rattle.register.specs.Holdings.{limit};
 use crate::refusal::Refusal;
 use crate::register::LIMIT;
 
+/// A change of one amount.
 #[derive(Clone, Copy, PartialEq, Eq, Debug)]
 pub enum Entry {
     Put(u64),

@@ -10,6 +10,7 @@ use crate::entry::Entry;
 use crate::refusal::Refusal;
 use crate::register::{MOST, Register};
 
+/// Calls on a kind are passed to the part that has it.
 #[derive(Drop)]
 pub struct Joined<S: Register, C: Register> {
     first: S,

@@ -64,13 +64,8 @@ pub trait Register: Drop {
     fn transfer(&mut self, kind: usize, from: usize, to: usize, amount: u64) -> Result<(), Refusal>
         ensures { Transferred (shows self.old) kind from to amount result (shows self.new) }
     {
-        if kind >= self.kinds() {
-            return Err(Refusal::UnknownKind);
-        }
-        let accounts = self.accounts();
-        if from >= accounts || to >= accounts {
-            return Err(Refusal::UnknownAccount);
-        }
+        self.ask_known(kind, from)?;
+        self.ask_known(kind, to)?;
         if self.tell(kind, from) < amount {
             return Err(Refusal::HoldsLess);
         }

@@ -9,6 +9,7 @@ use crate::refusal::Refusal;
 use crate::register::{MOST, Register};
 use std::alloc::{AllocError, Global};
 
+/// Rows that no kind has, being left over, are kept and never read.
 #[derive(Drop)]
 pub struct RowRegister<X> {
     rows: Vec<X>,
@@ -31,7 +32,7 @@ impl<X: Cell> RowRegister<X> {
     ghost use Rattle.register.specs.Rows.{laid, place as place_of};
     ghost use Rattle.register.specs.RowRegister.{rows_of, kinds_of, holdings_of};
 
-    /// A register over the rows, kind by kind. Rows that are left over stay as they are.
+    /// A register over the rows, kind by kind.
     pub fn new(rows: Vec<X>, kinds: usize) -> RowRegister<X>
         ensures shows { holdings_of X.amount X.empty result
             ≡ laid kinds rows.items X.amount X.empty }
@@ -87,6 +88,7 @@ impl<X: Cell> RowRegister<X> {
 }
 
 impl<X: Cell> Register for RowRegister<X> {
+    ghost use Rattle.std.specs.Prelude.{OnOk};
     ghost use Rattle.register.specs.Answers.{Enters, Put, Taken};
     ghost use Rattle.register.specs.Rows.{laid_bounded};
     ghost use Rattle.register.specs.RowRegister.{rows_of, kinds_of, holdings_of, row_of, Entered};
@@ -126,6 +128,8 @@ impl<X: Cell> Register for RowRegister<X> {
         ensures entered { Entered X.empty X.kept self.old kind account
             (X.with_entry (row_of X.empty self.old kind account) entry)
             result self.new }
+        ensures counted { OnOk result (X.amount (row_of X.empty self.old kind account)
+            ≡ (holdings_of X.amount X.empty self.old).amount kind account) }
     {
         let place = self.locate(kind, account)?;
         let row = self.rows[place];
@@ -140,6 +144,8 @@ impl<X: Cell> Register for RowRegister<X> {
         ensures entered { Entered X.empty X.kept self.old kind account
             (X.with_entry (row_of X.empty self.old kind account) (Entry.Put amount))
             result self.new }
+        ensures counted { OnOk result (X.amount (row_of X.empty self.old kind account)
+            ≡ (holdings_of X.amount X.empty self.old).amount kind account) }
     {
         self.enter(kind, account, Entry::Put(amount))
     }
@@ -150,6 +156,8 @@ impl<X: Cell> Register for RowRegister<X> {
         ensures entered { Entered X.empty X.kept self.old kind account
             (X.with_entry (row_of X.empty self.old kind account) (Entry.Take amount))
             result self.new }
+        ensures counted { OnOk result (X.amount (row_of X.empty self.old kind account)
+            ≡ (holdings_of X.amount X.empty self.old).amount kind account) }
     {
         self.enter(kind, account, Entry::Take(amount))
     }

@@ -1,4 +1,4 @@
-use Rattle.std.proofs.Common.{◌≡◌, true, [], ◌∷◌, ◌++◌, Ok, sym, refl, ap, ◌∙◌, arith}
+use Rattle.std.proofs.Common.{◌≡◌, true, [], ◌∷◌, ◌++◌, Ok, sym, ap, ◌∙◌}
 use Rattle.std.proofs.lemmas.Result.{err_from_is_err_and}
 use Rattle.fault.specs.Questions.{first_no}
 use Rattle.fault.proofs.Asking.{asked_fault, asked_value, accepted, refused, unless_none}
@@ -17,9 +17,6 @@ returns-in_err-movement c =
     let p = err_from_is_err_and c.from_residual.result c.from_residual.ensures.1 in
     refused c.from_residual.result (rw p.2 at p.1)
     (asked_fault (trade_questions d c.args.trade) (traded d c.args.trade) tt (sym c.in_err-movement.ensures.formed))
-
-pub push-requires : goal.push-requires
-push-requires c = let room = c.in_ok-movement.ensures.room refl in omega arith
 
 pub invariant_of-self : goal.invariant_of-self
 invariant_of-self c =

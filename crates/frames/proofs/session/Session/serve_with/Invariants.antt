@@ -1,7 +1,7 @@
 -- The lines of what is read so far are answered, and there is room for the answers to a chunk.
 use Rattle.std.proofs.Common.{◌*◌, ◌<◌, ◌≤◌, ℕ, List, length, vec_capacity}
 use Rattle.std.specs.Io.KnownBytes.{Consumes}
-use Rattle.frames.specs.declared.writing.TheConstants.{MAX_REPLY}
+use Rattle.frames.specs.Replies.{longest}
 use Rattle.frames.proofs.Reading.{IsRead}
 use Rattle.frames.proofs.session.Session.serve_with.Given as goal
 
@@ -12,4 +12,4 @@ invariant-loop g l = (text : List ℕ)
     (g.B.Settlement.state l.initial.self.book) (g.B.Settlement.state l.self.book)
     (g.W.Write.contents l.initial.output) (g.W.Write.contents l.output)
     × (0 < length l.chunk)
-    × (MAX_REPLY * length l.chunk ≤ vec_capacity l.out)
+    × (longest * length l.chunk ≤ vec_capacity l.out)

@@ -79,7 +79,7 @@ same_first f first others all e =
     let first_of : take (length first) (map f first ++ map f others) ≡ map f first = take_at (map f first) (map f others) (length first) (length-map first f) in
     sym first_of ∙ ap (take (length first)) (sym (map-append f first others) ∙ e) ∙ take-map f (length first) all
 
-pub fed_whole : {Z : Type 0} (p chunk q : List ℕ) (s t : State) (out out' : Vec ℕ Z) (done : Bool) → Fed (kept p) chunk s t out out' q done → Fed p chunk s t out out' q done
+fed_whole : {Z : Type 0} (p chunk q : List ℕ) (s t : State) (out out' : Vec ℕ Z) (done : Bool) → Fed (kept p) chunk s t out out' q done → Fed p chunk s t out out' q done
 fed_whole p chunk q s t out out' true (answered, keeps) =
     let (said, left, last) = texts_alike p chunk in
     (answered_alike (lines (kept p) chunk) (lines p chunk) said answered, keeps ∙ left)
@@ -96,6 +96,10 @@ fed_whole p chunk q s t out out' false fed =
       answered = answered_alike fed.first first same fed.answered;
       stopped = rw long at fed.stopped;
     }
+
+pub whole_text : {Z : Type 0} (q chunk q' : List ℕ) (s t : State) (out out' : Vec ℕ Z) (done : Bool) → Fed q chunk s t out out' q' done
+    → (text : List ℕ) → q ≡ kept text → Fed text chunk s t out out' q' done
+whole_text q chunk q' s t out out' done fed text e = fed_whole text chunk q' s t out out' done (rw e at fed)
 
 pub ended_whole : {Z : Type 0} (p : List ℕ) {s t : State} {out out' : Vec ℕ Z} (done : Bool) → Ended (last_line (kept p)) s t out out' done → Ended (last_line p) s t out out' done
 ended_whole p done ended =

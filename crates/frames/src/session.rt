@@ -1,5 +1,5 @@
 //! Lines come in chunks of text and are answered one after the other.
-ghost use Rattle.std.specs.Prelude.{◌≡◌, ◌*◌, ◌<◌, ◌≤◌, [], ◌∷◌, ◌++◌, length, vec_len, vec_capacity, is_ok, if◌then◌else◌, IfOk, OnOk, IfSome};
+ghost use Rattle.std.specs.Prelude.{◌≡◌, ℕ, List, ◌*◌, ◌<◌, ◌≤◌, [], ◌∷◌, ◌++◌, length, vec_len, vec_capacity, is_ok, if◌then◌else◌, IfOk, OnOk, IfSome};
 ghost use Rattle.std.specs.Io.KnownBytes.{Appends};
 ghost use Rattle.frames.specs.Replies.{longest};
 ghost use Rattle.frames.specs.Sessions.{ChunksAlike, Ended, Fed, LinesLawful, Serves, TextsAlike, after_lines, answers, last_line, lines, rest};
@@ -43,7 +43,10 @@ impl<B: Settlement> Session<B> {
             (B.Settlement.state self.old.book) (B.Settlement.state self.new.book)
             out.old out.new self.new.pending (is_ok result) }
 
-        // What holds of the characters that are kept holds of the whole text before the chunk.
+        // It is so for each text before the chunk of which those characters are kept.
+        ensures whole { (text : List ℕ) → self.old.pending ≡ kept text → Fed text chunk.now
+            (B.Settlement.state self.old.book) (B.Settlement.state self.new.book)
+            out.old out.new self.new.pending (is_ok result) }
         ensures texts { TextsAlike }
         ensures chunks { ChunksAlike }
         ensures lawful { LinesLawful }
@@ -75,6 +78,9 @@ impl<B: Settlement> Session<B> {
     /// Answers the line whose end has not come, at the end of the input. An empty one is no line.
     pub fn finish(&mut self, out: &mut Vec<u8>) -> Result<(), AllocError>
         ensures answers { Ended (last_line self.old.pending)
+            (B.Settlement.state self.old.book) (B.Settlement.state self.new.book)
+            out.old out.new (is_ok result) }
+        ensures whole { (text : List ℕ) → self.old.pending ≡ kept text → Ended (last_line text)
             (B.Settlement.state self.old.book) (B.Settlement.state self.new.book)
             out.old out.new (is_ok result) }
         ensures clears { self.new.pending ≡ (if is_ok result then [] else self.old.pending) }

@@ -1,7 +1,7 @@
-use Rattle.std.proofs.Common.{rules}
+use Rattle.std.proofs.Common.{true, false, rules}
 use Rattle.std.proofs.lemmas.Result.{err_from_is_err_and}
 use Rattle.frames.proofs.Chunks.{chunks_alike, texts_alike}
-use Rattle.frames.proofs.Feeding.{begins, ends, goes_on, lines_lawful, stops}
+use Rattle.frames.proofs.Feeding.{begins, ends, goes_on, lines_lawful, stops, whole_text}
 use Rattle.frames.proofs.session.Session.feed.Goals as goal
 
 pub loop-end-init : goal.loop-end-init
@@ -11,8 +11,10 @@ pub returns-in_err-end_line : goal.returns-in_err-end_line
 returns-in_err-end_line g c =
     let err = err_from_is_err_and c.from_residual.result c.from_residual.ensures.1 in
     let (found, is) = c.in-Some.ensures in
+    let feeds = stops c.end_line.new.self.pending _ c.in-Some.end c.loop-end.invariant found is c.in_err-end_line.ensures.answers in
     record {
-      feeds = rw err.1 (stops c.end_line.new.self.pending _ c.in-Some.end c.loop-end.invariant found is c.in_err-end_line.ensures.answers);
+      feeds = rw err.1 feeds;
+      whole = λ text e. rw err.1 (whole_text c.args.self.now.pending c.args.chunk.now c.end_line.new.self.pending _ _ _ _ false feeds text e);
       texts = texts_alike;
       chunks = chunks_alike;
       lawful = lines_lawful;
@@ -26,8 +28,10 @@ loop-end-preserved g c =
 
 pub returns : goal.returns
 returns g c =
+    let feeds = ends _ c.loop-end.invariant c.in_default.ensures (search rules) in
     record {
-      feeds = ends _ c.loop-end.invariant c.in_default.ensures (search rules);
+      feeds = feeds;
+      whole = whole_text c.args.self.now.pending c.args.chunk.now _ _ _ _ _ true feeds;
       texts = texts_alike;
       chunks = chunks_alike;
       lawful = lines_lawful;

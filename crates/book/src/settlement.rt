@@ -54,8 +54,8 @@ impl<S: Register, C: Register> Book<S, C> {
             (state_of S.Register.shows C.Register.shows self.new) }
     {
         self.passed()?;
-        // Stays: the new form is no plainer: the two registers are of two types, so no value or
-        // closure can stand for either, and what is done with one is generic already.
+        // Stays: the new form is no plainer: the two registers are of two types, and what is done with
+        // either is one generic function already.
         match Side::try_from(place.side)? {
             Side::Securities => pay(&mut self.securities, place, entry),
             Side::Cash => pay(&mut self.cash, place, entry),

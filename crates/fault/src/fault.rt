@@ -1,6 +1,6 @@
 //! The reasons for which a call is refused, each with its number and its sentence.
 ghost use Rattle.std.specs.Prelude.{◌≡◌};
-ghost use Rattle.register.specs.Answers.{refusal_number};
+ghost use Rattle.register.specs.Refusals.{refusal_number};
 ghost use Rattle.fault.specs.Numbers.{fault_number};
 ghost use Rattle.fault.specs.Refusals.{passed_up};
 
@@ -83,6 +83,7 @@ pub enum Fault {
     #[error("the length does not fit the code")]
     FrameLength = 82,
     // by a register
+    // Stays: the new form is no plainer: a variant that held the register's refusal would have no number.
     #[error("the register does not know the kind")]
     RegisterUnknownKind = 91,
     #[error("the register does not know the account")]
@@ -95,10 +96,10 @@ pub enum Fault {
 
 impl Fault {
     /// The number that a refused call returns.
-    pub fn number(self) -> u8
-        ensures { result ≡ fault_number self }
+    pub fn number(&self) -> u8
+        ensures { result ≡ fault_number self.now }
     {
-        self as u8
+        *self as u8
     }
 }
 

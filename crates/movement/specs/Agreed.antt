@@ -19,7 +19,7 @@ abbrev pub member_known : ℕ → Bool
 member_known m = nat_le 1 m && nat_le m members
 
 -- one category of one member set
--- Stays: the new form is no plainer: a category's row tells which it is, and the code keeps each in its row.
+-- Stays: the new form is no plainer: `==` in definitions is of numbers, and a category's row tells which it is.
 abbrev pub with_terms : Agreed → ℕ → Category → (ℕ × ℕ) → Agreed
 with_terms t m c p = λ n d. if n == m && row d == row c then Some p else t n d
 

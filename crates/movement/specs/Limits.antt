@@ -21,6 +21,10 @@ currencies = 2
 abbrev pub most_movements : ℕ
 most_movements = 128
 
+-- the categories that a member sets terms for
+abbrev pub categories : ℕ
+categories = 5
+
 -- the members who set terms, numbered from 1
 abbrev pub members : ℕ
 members = 16

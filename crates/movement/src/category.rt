@@ -2,8 +2,8 @@
 ghost use Rattle.std.specs.Prelude.{◌≡◌, ◌<◌};
 ghost use Rattle.fault.specs.Questions.{or_fault};
 ghost use Rattle.fault.specs.declared.fault.Fault.TheVariants.{UnknownCategory};
-ghost use Rattle.movement.specs.declared.limits.TheConstants.{CATEGORIES};
 ghost use Rattle.movement.specs.Letters.{category_of, row as row_of};
+ghost use Rattle.movement.specs.Limits.{categories};
 
 use fault::Fault;
 
@@ -40,7 +40,7 @@ impl Category {
     /// Its place in a member's terms.
     pub(crate) fn row(self) -> usize
         ensures value { result ≡ row_of self }
-        ensures bound { result < CATEGORIES }
+        ensures bound { result < categories }
     {
         self as usize
     }

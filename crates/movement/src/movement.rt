@@ -2,7 +2,8 @@
 use crate::class::Class;
 use crate::party::Party;
 
-/// What a trade becomes on the book: securities that its seller gives, and cash that its buyer pays for them.
+/// What a trade becomes on the book: securities that its seller gives, and cash that its buyer pays
+/// for them. The default fills the unused room of a list of fixed room.
 #[derive(Clone, Copy, PartialEq, Eq, Debug, Default)]
 pub struct Movement {
     pub number: u32,

@@ -32,7 +32,7 @@ fn total(mut package: Package, turns: u32) -> Option<u64> {
 fn run(rt: &HostRuntime) -> anyhow::Result<()> {
     let mut words = env::args(rt)?;
     let _ = words.next();
-    let (Some(case), Some(turns), None) = (words.next(), words.next(), words.next()) else {
+    let (Some(case), Some(turns)) = (words.next(), words.next()) else {
         return Err(anyhow!("{USAGE}"));
     };
     let turns = turns.as_str().parse::<u32>()?;

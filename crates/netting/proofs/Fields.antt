@@ -13,4 +13,4 @@ module _ (a : Inside) (holds : Holds a) where
   pub room : IsRoomy most_legs a.after_posting
   room =
       let small = (bounded_facts a.movements.now a.amounts.now holds.bounded).small in
-      kept_roomy (λ p. pos (slice_index a.amounts.now p)) a.movements.now a.marks a.after_posting fitting (λ p h. amount_near (slice_index a.amounts.now p) (small p)) holds.kept
+      kept_roomy (λ p. pos (slice_index a.amounts.now p)) a.movements.now a.marks a.after_posting fitting (λ p h. amount_near (slice_index a.amounts.now p) (small p h)) holds.kept

@@ -1,11 +1,11 @@
 -- What the netting takes: movements in rising number, known kinds and accounts, amounts within limits.
-use Rattle.std.specs.Prelude.{ℕ, ◌+◌, ◌-◌, Bool, ◌&&◌, List, length, nat_le, nat_lt}
+use Rattle.std.specs.Prelude.{ℕ, ◌+◌, ◌-◌, Bool, ◌&&◌, List, length, nat_le, nat_lt, slice_index}
 use Rattle.std.specs.List.{list_all}
 use Rattle.register.specs.Holdings.{limit}
 use Rattle.movement.specs.declared.movement.Movement.{Movement}
 use Rattle.movement.specs.declared.party.Party.{Party}
 use Rattle.netting.specs.Search.{none_below}
-use Rattle.netting.specs.Places.{at}
+use Rattle.netting.specs.Places.{at, places}
 use Rattle.movement.specs.Limits.{currencies, most_accounts, most_moved, most_movements, most_securities}
 
 abbrev pub known_accounts : Party → Bool
@@ -29,9 +29,13 @@ fitting movements = nat_le (length movements) most_movements && list_all fits mo
 abbrev pub falls : List Movement → ℕ → Bool
 falls movements i = nat_le (at movements (i + 1)).number (at movements i).number
 
+-- the amount of a place is more than it can hold
+abbrev pub too_large : List ℕ → ℕ → Bool
+too_large amounts p = nat_lt limit (slice_index amounts p)
+
 -- amounts that places can hold
 abbrev pub small : List ℕ → Bool
-small amounts = list_all (λ amount. nat_le amount limit) amounts
+small amounts = none_below places (too_large amounts)
 
 -- what is netted
 abbrev pub bounded : List Movement → List ℕ → Bool

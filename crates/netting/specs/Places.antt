@@ -1,5 +1,5 @@
 -- The places, and what the two legs of a movement take from them and bring to them.
-use Rattle.std.specs.Prelude.{ℕ, ◌+◌, ◌*◌, Bool, false, cond, ◌&&◌, List, ◌==◌, nat_lt, slice_index_or}
+use Rattle.std.specs.Prelude.{ℕ, ◌+◌, ◌*◌, Bool, false, ◌&&◌, List, ◌==◌, nat_lt, slice_index_or, if◌then◌else◌}
 use Rattle.movement.specs.declared.movement.Movement.{Movement}
 use Rattle.movement.specs.declared.class.Class.TheVariants.{Central}
 use Rattle.movement.specs.Movements.{giver, receiver, payer, payee}
@@ -44,10 +44,10 @@ leg_of Cash m = record {
 
 -- what a leg takes from a place, and what it brings to it
 abbrev pub leg_takes : Leg → ℕ → ℕ
-leg_takes leg p = cond (p == leg.from) leg.amount 0
+leg_takes leg p = if p == leg.from then leg.amount else 0
 
 abbrev pub leg_brings : Leg → ℕ → ℕ
-leg_brings leg p = cond (p == leg.to) leg.amount 0
+leg_brings leg p = if p == leg.to then leg.amount else 0
 
 -- what a movement takes from a place
 abbrev pub takes : Movement → ℕ → ℕ

@@ -1,5 +1,5 @@
 -- What a package brings to a place and takes from it. A package is a list of marks beside the movements.
-use Rattle.std.specs.Prelude.{ℕ, Bool, false, cond, List, length, ℤ, pos, ◌+ℤ◌, ◌-ℤ◌, int_lt, slice_index, slice_index_or}
+use Rattle.std.specs.Prelude.{ℕ, Bool, false, List, length, ℤ, pos, ◌+ℤ◌, ◌-ℤ◌, int_lt, slice_index, slice_index_or, if◌then◌else◌}
 use Rattle.register.specs.Holdings.{sum_below}
 use Rattle.movement.specs.declared.movement.Movement.{Movement}
 use Rattle.netting.specs.Places.{at, takes, brings}
@@ -9,7 +9,7 @@ in_package marks i = slice_index_or marks i false
 
 -- the sum of f over those below n that are marked
 abbrev pub sum_marked : ℕ → List Bool → (ℕ → ℕ) → ℕ
-sum_marked n marks f = sum_below n (λ i. cond (in_package marks i) (f i) 0)
+sum_marked n marks f = sum_below n (λ i. if in_package marks i then f i else 0)
 
 -- what the first n movements of a package bring to a place and take from it
 abbrev pub brought_by : ℕ → List Movement → List Bool → ℕ → ℕ

@@ -1,5 +1,5 @@
 -- Step 2: the lowest of the struck that can rejoin with no place short rejoins, again from the lowest until none can.
-use Rattle.std.specs.Prelude.{◌≡◌, ℕ, ◌≤◌, Bool, true, cond, not, ◌&&◌, ◌||◌, List, length, ℤ, pos, Option, ◌==◌, int_le, slice_set}
+use Rattle.std.specs.Prelude.{◌≡◌, ℕ, ◌≤◌, Bool, true, not, ◌&&◌, ◌||◌, List, length, ℤ, pos, Option, ◌==◌, int_le, slice_set, if◌then◌else◌}
 use Rattle.movement.specs.declared.movement.Movement.{Movement}
 use Rattle.netting.specs.declared.leg.Leg.{Leg}
 use Rattle.netting.specs.Search.{first_below, times}
@@ -34,7 +34,7 @@ abbrev pub rejoin : List Movement → List ℕ → List Bool → List Bool → L
 rejoin movements amounts tried marks = marked true marks (rejoins_next movements amounts tried marks)
 
 abbrev pub how_many_struck : List Movement → List Bool → List Bool → ℕ
-how_many_struck movements tried marks = sum_marked (length movements) tried (λ i. cond (in_package marks i) 0 1)
+how_many_struck movements tried marks = sum_marked (length movements) tried (λ i. if in_package marks i then 0 else 1)
 
 -- at most as many rejoin as are struck
 abbrev pub after_rejoins : List Movement → List ℕ → List Bool → List Bool → List Bool

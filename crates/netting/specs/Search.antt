@@ -1,14 +1,14 @@
 -- Searches and repetition over the numbers below a number.
-use Rattle.std.specs.Prelude.{◌≡◌, ℕ, zero, suc, ◌<◌, true, false, Bool, cond, not, is_some, Some, None, Option, MatchOption}
+use Rattle.std.specs.Prelude.{◌≡◌, ℕ, zero, suc, ◌<◌, true, false, Bool, not, is_some, Some, None, Option, MatchOption, if◌then◌else◌}
 
 -- what was found before, else n where it passes
 abbrev pub or_at : Option ℕ → Bool → ℕ → Option ℕ
 or_at (Some i) passes n = Some i
-or_at None passes n = cond passes (Some n) None
+or_at None passes n = if passes then Some n else None
 
--- Stays: the new form is no plainer: what is searched are numbers and not the elements of a list, and the library's
--- `find` over a range of them says no less.
 -- the lowest number below n that passes
+-- Stays: the new form is no plainer: `find` over a range is as long, and what is proved here goes by the last number,
+-- where `find` goes by the first.
 abbrev pub first_below : ℕ → (ℕ → Bool) → Option ℕ
 first_below zero passes = None
 first_below (suc n) passes = or_at (first_below n passes) (passes n) n
@@ -16,7 +16,7 @@ first_below (suc n) passes = or_at (first_below n passes) (passes n) n
 -- the highest number below n that passes
 abbrev pub last_below : ℕ → (ℕ → Bool) → Option ℕ
 last_below zero passes = None
-last_below (suc n) passes = cond (passes n) (Some n) (last_below n passes)
+last_below (suc n) passes = if passes n then Some n else last_below n passes
 
 -- whether no number below n passes
 abbrev pub none_below : ℕ → (ℕ → Bool) → Bool

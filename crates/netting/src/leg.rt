@@ -32,8 +32,8 @@ impl Leg {
         }
     }
 
-    // Stays: the new form is no plainer; a rule takes what is taken and what is brought, and one
-    // function of both would be asked for either by a mark.
+    // Stays: the new form is no plainer: strikes ask for what is taken and what is brought by these
+    // names, and one function of both would need a parameter that says which.
     /// What it takes from a place.
     pub fn takes(&self, place: usize) -> u64
         ensures { result ≡ leg_takes self.now place }

@@ -2,6 +2,8 @@
 //! decide who settles: strikes while a place is short, then rejoins.
 ghost use Rattle.std.specs.Prelude.{◌≡◌, ℕ, ◌+◌, ◌<◌, ◌≤◌, ◌↔◌, IsTrue, not, length, pos, slice_index, slice_index_or};
 ghost use Rattle.register.specs.Holdings.{limit};
+ghost use Rattle.movement.specs.Limits.{most_movements};
+ghost use Rattle.netting.specs.Sizes.{most_places};
 ghost use Rattle.netting.specs.Search.{FindsFirst, FindsLast};
 ghost use Rattle.netting.specs.Places.{only_takes as only_takes_from, takes, brings};
 ghost use Rattle.netting.specs.Positions.{in_package};
@@ -20,7 +22,7 @@ use std::marker::Model;
 /// The movements, the amounts of all places, who is tried and who is inside, with what places have
 /// after posting those.
 // Stays: a rule of the project: nothing here may want memory, so marks and amounts are arrays of
-// fixed size, by movement and by place.
+// fixed size, by movement and by place, and callers give them so.
 #[derive(Drop)]
 pub struct Package<'a> {
     movements: &'a [Movement],
@@ -76,7 +78,7 @@ impl<'a> Package<'a> {
 
     // The amount of a place after posting.
     fn amount_after(&self, place: usize) -> i64
-        requires { place < PLACES }
+        requires { place < most_places }
         ensures { result ≡ amount_after self.now place }
     {
         self.after_posting[place]
@@ -84,7 +86,7 @@ impl<'a> Package<'a> {
 
     // The first short place.
     fn first_short(&self) -> Option<usize>
-        ensures { FindsFirst PLACES (is_short self.now) result }
+        ensures { FindsFirst most_places (is_short self.now) result }
     {
         self.after_posting.iter().position(|amount| *amount < 0)
     }
@@ -113,7 +115,7 @@ impl<'a> Package<'a> {
 
     // Whether a movement was tried and is not inside any more.
     fn was_struck(&self, i: usize) -> bool
-        requires { i < MOVEMENTS }
+        requires { i < most_movements }
         ensures { result ≡ struck self.now.tried self.now.marks i }
     {
         self.tried[i] && !self.marks[i]
@@ -186,8 +188,8 @@ impl<'a> Package<'a> {
 
 // The amounts as they may be posted to.
 fn as_signed(amounts: &[u64; PLACES]) -> [i64; PLACES]
-    requires { (p : ℕ) → p < PLACES → slice_index amounts.now p ≤ limit }
-    ensures { (p : ℕ) → p < PLACES →
+    requires { (p : ℕ) → p < most_places → slice_index amounts.now p ≤ limit }
+    ensures { (p : ℕ) → p < most_places →
         slice_index_or result p (pos 0) ≡ pos (slice_index amounts.now p) }
 {
     // Stays: tried, and the proof did not close: `map` asks that each amount fits the cast.

@@ -1,5 +1,6 @@
 //! What a package brings to places and takes from them.
 ghost use Rattle.std.specs.Prelude.{◌≡◌, ℕ, ◌+◌, ◌<◌, ◌≤◌, IsTrue, ◌&&◌, pos, ◌+ℤ◌, is_some, IfSome, if◌then◌else◌, nat_eq, nat_lt, slice_index_or};
+ghost use Rattle.movement.specs.Limits.{most_moved};
 ghost use Rattle.netting.specs.Sizes.{most_places};
 ghost use Rattle.netting.specs.Places.{leg_takes, leg_brings, takes, brings};
 ghost use Rattle.netting.specs.Positions.{position as position_of};
@@ -9,11 +10,11 @@ ghost use Rattle.netting.specs.Tables.{Kept, Posted, IsNear, IsRoomy, LegFits, m
 use crate::leg::Leg;
 use crate::limits::{MOVEMENTS, fitting};
 use crate::places::PLACES;
-use movement::{MAX_MOVED, Movement, Side};
+use movement::{Movement, Side};
 
 // An amount as it stands, or taken back.
 fn signed(amount: u64, inside: bool) -> i64
-    requires { amount ≤ MAX_MOVED }
+    requires { amount ≤ most_moved }
     ensures { result ≡ signed_of inside (pos amount) }
 {
     if inside {
@@ -25,7 +26,7 @@ fn signed(amount: u64, inside: bool) -> i64
 
 // Raises one amount.
 fn shift(amounts: &mut [i64; PLACES], place: usize, by: i64)
-    requires place { place < PLACES }
+    requires place { place < most_places }
     requires room { IsNear (most_legs + 2) (slice_index_or amounts.old place (pos 0)) }
     requires small { IsNear 1 by }
     ensures { (p : ℕ) → slice_index_or amounts.new p (pos 0)
@@ -75,6 +76,7 @@ pub fn posted(
 
 /// The position of a place under a package. None past the last place, or where the movements cannot
 /// be netted.
+// Stays: a rule of the project: callers give marks beside movements, in the form of `settling`.
 pub fn position(movements: &[Movement], marks: &[bool; MOVEMENTS], place: usize) -> Option<i64>
     ensures answered { is_some result ≡ (nat_lt place most_places && fitting_of movements.now) }
     ensures value { IfSome result (λ z. z ≡ position_of movements.now marks.now place) }

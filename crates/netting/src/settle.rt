@@ -35,7 +35,7 @@ fn settled(
 /// Who settles of the movements that are tried, given the amounts of all places. None where these
 /// are not within the limits.
 // Stays: a rule of the project: nothing here may want memory, so marks and amounts are arrays of
-// fixed size, by movement and by place.
+// fixed size, by movement and by place, and callers give them so.
 pub fn settling(
     movements: &[Movement],
     tried: &[bool; MOVEMENTS],

@@ -3,3 +3,4 @@ mod Parts
 mod Places
 pub mod Sums
 pub mod Zeros
+pub mod TableRows

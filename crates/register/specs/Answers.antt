@@ -1,5 +1,5 @@
 -- When an entry and a transfer are refused, and what they leave.
-use Rattle.std.specs.Prelude.{◌≡◌, ℕ, ◌+◌, cond, not, ◌&&◌, ◌||◌, is_ok, Ok, Result, ◌==◌, nat_le, nat_lt}
+use Rattle.std.specs.Prelude.{◌≡◌, ℕ, ◌+◌, not, ◌&&◌, ◌||◌, is_ok, Ok, Result, ◌==◌, nat_le, nat_lt, if◌then◌else◌}
 use Rattle.register.specs.Holdings.{Holdings, limit, raised, lowered, moved}
 use Rattle.register.specs.Entry.{room_for, holdings_after}
 use Rattle.register.specs.declared.entry.Entry.{Entry}
@@ -39,7 +39,7 @@ transfer_answer h k from to n =
 -- what a call promises: the answer r, and what it leaves, which is done where it was accepted and before where it was refused
 pub record Changed {A E X : Type 0} (before : X) (answer : Result A E) (done : X) (r : Result A E) (left : X) : Type 0 where
   pub answered : r ≡ answer
-  pub after : left ≡ cond (is_ok answer) done before
+  pub after : left ≡ if is_ok answer then done else before
 
 -- what an entry promises
 abbrev pub Enters : Holdings → ℕ → ℕ → Entry → Result Unit Refusal → Holdings → Type 0

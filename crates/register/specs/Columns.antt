@@ -1,5 +1,5 @@
 -- A row of two columns: what was put and what was taken.
-use Rattle.std.specs.Prelude.{ℕ, ◌+◌, ◌-◌, ◌≤◌, min, Bool, cond, ◌&&◌, nat_le}
+use Rattle.std.specs.Prelude.{ℕ, ◌+◌, ◌-◌, ◌≤◌, min, Bool, ◌&&◌, nat_le, if◌then◌else◌}
 use Rattle.register.specs.Holdings.{limit}
 use Rattle.register.specs.declared.entry.Entry.{Entry}
 use Rattle.register.specs.declared.entry.Entry.TheVariants.{Put, Take}
@@ -27,7 +27,7 @@ open_for c n = nat_le c.debits c.credits && nat_le (c.credits - c.debits) limit 
 
 -- the columns that an entry is made in
 abbrev pub ready : Columns → ℕ → Columns
-ready c n = cond (open_for c n) c (forward c)
+ready c n = if open_for c n then c else forward c
 
 -- n put
 abbrev pub credited : Columns → ℕ → Columns

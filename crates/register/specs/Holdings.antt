@@ -1,5 +1,5 @@
 -- What a register means: one amount for each kind and account.
-use Rattle.std.specs.Prelude.{ℕ, zero, suc, ◌+◌, ◌-◌, cond, ◌&&◌, ◌==◌}
+use Rattle.std.specs.Prelude.{ℕ, zero, suc, ◌+◌, ◌-◌, ◌&&◌, ◌==◌, if◌then◌else◌}
 use Rattle.std.specs.List.{sum_by, range_with_len}
 
 -- the number of kinds, the number of accounts, and the amount of each kind on each account
@@ -22,7 +22,7 @@ zero_holdings kinds accounts = record { kinds = kinds; accounts = accounts; amou
 
 -- the same with n at one kind and account
 abbrev pub with_amount : Holdings → ℕ → ℕ → ℕ → Holdings
-with_amount h k a n = record h { amount = λ j b. cond (j == k && b == a) n (h.amount j b) }
+with_amount h k a n = record h { amount = λ j b. if j == k && b == a then n else h.amount j b }
 
 -- n more on one account
 abbrev pub raised : Holdings → ℕ → ℕ → ℕ → Holdings
@@ -34,11 +34,11 @@ lowered h k a n = with_amount h k a (h.amount k a - n)
 
 -- n from one account to another; from an account to itself nothing changes
 abbrev pub moved : Holdings → ℕ → ℕ → ℕ → ℕ → Holdings
-moved h k from to n = cond (from == to) h (raised (lowered h k from n) k to n)
+moved h k from to n = if from == to then h else raised (lowered h k from n) k to n
 
 -- f 0 + f 1 + .. + f (n - 1)
--- Stays: the new form is no plainer: what netting proves of a sum goes by its last term, where that of a range, as in
--- `total`, goes by its first.
+-- Stays: the new form is no plainer: it gives its last term at once, by which netting's sums are proved, where a sum over a
+-- range, as in `total`, needs a lemma for that at each step.
 abbrev pub sum_below : ℕ → (ℕ → ℕ) → ℕ
 sum_below zero f = 0
 sum_below (suc n) f = sum_below n f + f n

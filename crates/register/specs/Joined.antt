@@ -1,5 +1,5 @@
 -- Two registers shown as one.
-use Rattle.std.specs.Prelude.{◌≡◌, ℕ, ◌+◌, ◌-◌, min, cond, ◌&&◌, is_ok, Result, nat_le, nat_lt}
+use Rattle.std.specs.Prelude.{◌≡◌, ℕ, ◌+◌, ◌-◌, min, ◌&&◌, is_ok, Result, nat_le, nat_lt, if◌then◌else◌}
 use Rattle.register.specs.Holdings.{Holdings, most}
 use Rattle.register.specs.declared.refusal.Refusal.{Refusal}
 use Rattle.register.specs.declared.joined.Joined.{Joined}
@@ -18,16 +18,16 @@ module _ (f s : Holdings) where
   joined_holdings = record {
     kinds = joined_kinds;
     accounts = joined_accounts;
-    amount = λ k a. cond
-        (nat_lt k joined_kinds && nat_lt a joined_accounts)
-        (cond (nat_lt k f.kinds) (f.amount k a) (s.amount (k - f.kinds) a))
-        0;
+    amount = λ k a.
+        if nat_lt k joined_kinds && nat_lt a joined_accounts
+        then (if nat_lt k f.kinds then f.amount k a else s.amount (k - f.kinds) a)
+        else 0;
   }
 
   -- what a call leaves of the parts: the one that has the kind is changed where the call was answered, the other is not
   pub record PartsLeft (change : Holdings → ℕ → Holdings) (k : ℕ) (r : Result Unit Refusal) (f' s' : Holdings) : Type 0 where
-    pub first : f' ≡ cond (is_ok r && nat_lt k f.kinds) (change f k) f
-    pub second : s' ≡ cond (is_ok r && nat_le f.kinds k) (change s (k - f.kinds)) s
+    pub first : f' ≡ if is_ok r && nat_lt k f.kinds then change f k else f
+    pub second : s' ≡ if is_ok r && nat_le f.kinds k then change s (k - f.kinds) else s
 
 -- the first of the two registers, and the second
 abbrev pub first_of : {S C : Type 0} → Joined S C → S

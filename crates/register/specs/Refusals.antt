@@ -1,5 +1,5 @@
 -- Why a register refuses an entry, and by which number.
-use Rattle.std.specs.Prelude.{ℕ, Bool, cond, Err, Result}
+use Rattle.std.specs.Prelude.{ℕ, Bool, Err, Result, if◌then◌else◌}
 use Rattle.register.specs.declared.refusal.Refusal.{Refusal}
 use Rattle.register.specs.declared.refusal.Refusal.TheVariants.{UnknownKind, UnknownAccount, HoldsLess, OverLimit}
 
@@ -12,4 +12,4 @@ refusal_number OverLimit = 94
 
 -- refused by e where b holds, else answered as r says
 abbrev pub refuses : {A : Type 0} → Bool → Refusal → Result A Refusal → Result A Refusal
-refuses b e r = cond b (Err e) r
+refuses b e r = if b then Err e else r

@@ -1,5 +1,5 @@
 -- Rows that go kind by kind, as many for each kind.
-use Rattle.std.specs.Prelude.{ℕ, ◌+◌, ◌*◌, ◌/◌, ◌≤◌, min, cond, ◌&&◌, List, length, is_ok, Result, nat_lt, slice_index_or, slice_set}
+use Rattle.std.specs.Prelude.{ℕ, ◌+◌, ◌*◌, ◌/◌, ◌≤◌, min, ◌&&◌, List, length, is_ok, Result, nat_lt, slice_index_or, slice_set, if◌then◌else◌}
 use Rattle.std.proofs.Math.Nat.{le-add_right}
 use Rattle.std.proofs.lemmas.Bool.{cond_both}
 use Rattle.register.specs.Holdings.{Holdings, limit, most}
@@ -28,14 +28,14 @@ module _ {X : Type 0} (kinds : ℕ) (rows : List X) where
 
   -- the rows as a call leaves them: written where it was answered, else as before
   abbrev pub left_by : Result Unit Refusal → ℕ → ℕ → X → List X
-  left_by r k a x = cond (is_ok r) (written k a x) rows
+  left_by r k a x = if is_ok r then written k a x else rows
 
   -- what rows show, each counting as `counts` says; none stands for a row that is not there
   abbrev pub laid : (X → ℕ) → X → Holdings
   laid counts none = record {
     kinds = shown_kinds;
     accounts = shown_accounts;
-    amount = λ k a. cond (nat_lt k shown_kinds && nat_lt a shown_accounts) (counts (slice_index_or rows (place k a) none)) 0;
+    amount = λ k a. if nat_lt k shown_kinds && nat_lt a shown_accounts then counts (slice_index_or rows (place k a) none) else 0;
   }
 
 -- no amount is above the limit where no row counts for more

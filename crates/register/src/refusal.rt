@@ -19,9 +19,9 @@ pub enum Refusal {
 
 impl Refusal {
     /// The number by which the refusal is known outside.
-    pub fn number(self) -> u8
-        ensures { result ≡ refusal_number self }
+    pub fn number(&self) -> u8
+        ensures { result ≡ refusal_number self.now }
     {
-        self as u8
+        *self as u8
     }
 }

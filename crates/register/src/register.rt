@@ -44,21 +44,21 @@ pub trait Register: Drop {
 
     /// Enters a change of one amount.
     fn enter(&mut self, kind: usize, account: usize, entry: Entry) -> Result<(), Refusal>
-        ensures { Enters (shows self.old) kind account entry result (shows self.new) };
+        ensures { Enters (shows self.old) kind account entry result (shows self.new) }
+    {
+        match entry {
+            Entry::Put(amount) => self.put(kind, account, amount),
+            Entry::Take(amount) => self.take(kind, account, amount),
+        }
+    }
 
     /// Raises one amount.
     fn put(&mut self, kind: usize, account: usize, amount: u64) -> Result<(), Refusal>
-        ensures { Put (shows self.old) kind account amount result (shows self.new) }
-    {
-        self.enter(kind, account, Entry::Put(amount))
-    }
+        ensures { Put (shows self.old) kind account amount result (shows self.new) };
 
     /// Lowers one amount.
     fn take(&mut self, kind: usize, account: usize, amount: u64) -> Result<(), Refusal>
-        ensures { Taken (shows self.old) kind account amount result (shows self.new) }
-    {
-        self.enter(kind, account, Entry::Take(amount))
-    }
+        ensures { Taken (shows self.old) kind account amount result (shows self.new) };
 
     /// Lowers one amount and raises another of the same kind by the same number.
     fn transfer(&mut self, kind: usize, from: usize, to: usize, amount: u64) -> Result<(), Refusal>
@@ -66,15 +66,11 @@ pub trait Register: Drop {
     {
         self.ask_known(kind, from)?;
         self.ask_known(kind, to)?;
-        if self.tell(kind, from) < amount {
-            return Err(Refusal::HoldsLess);
-        }
+        Entry::Take(amount).ask_room(self.tell(kind, from))?;
         if from == to {
             return Ok(());
         }
-        if amount > LIMIT - self.tell(kind, to) {
-            return Err(Refusal::OverLimit);
-        }
+        Entry::Put(amount).ask_room(self.tell(kind, to))?;
         self.take(kind, from, amount)?;
         self.put(kind, to, amount)
     }

@@ -4,11 +4,11 @@ use Rattle.netting.proofs.Bounds.{amount_near}
 use Rattle.netting.proofs.package.Package.new.Goals as goal
 
 pub as_signed-requires : goal.as_signed-requires
-as_signed-requires c p h = (bounded_facts c.args.movements.now c.args.amounts.now c.requires).small p
+as_signed-requires c p h = (bounded_facts c.args.movements.now c.args.amounts.now c.requires).small p h
 
 pub posted-requires-clause-room : goal.posted-requires-clause-room
 posted-requires-clause-room c p h =
-    let small = (bounded_facts c.args.movements.now c.args.amounts.now c.requires).small p in
+    let small = (bounded_facts c.args.movements.now c.args.amounts.now c.requires).small p h in
     rw (c.as_signed.ensures p h) (amount_near (slice_index c.args.amounts.now p) small)
 
 pub posted-requires-clause-fitting : goal.posted-requires-clause-fitting

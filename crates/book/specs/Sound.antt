@@ -24,5 +24,5 @@ pub record IsOpen (accounts kinds : ℕ) (securities cash : Holdings) : Type 0 w
   pub cash_fits : FitsBook accounts currencies cash
 
 -- the opening failed, or what it asked still holds
-abbrev pub Sound : State → Type 0
-Sound s = s.failed ≡ None → IsOpen s.daily.accounts s.daily.kinds s.securities s.cash
+abbrev pub IsSound : State → Type 0
+IsSound s = s.failed ≡ None → IsOpen s.daily.accounts s.daily.kinds s.securities s.cash

@@ -21,12 +21,12 @@ pub struct Book<S: Register, C: Register> {
 impl<S: Register, C: Register> Model for Book<S, C> {
     ghost use Rattle.book.specs.Parts.{Parts};
     ghost use Rattle.book.specs.Books.{parts, state_of};
-    ghost use Rattle.book.specs.Sound.{Sound};
+    ghost use Rattle.book.specs.Sound.{IsSound};
 
     ghost Value = { Parts S C };
 
     ghost view = { λ b. parts b.failed b.daybook b.securities b.cash };
 
-    ghost invariant = { λ b. Sound (state_of S.Register.shows C.Register.shows
+    ghost invariant = { λ b. IsSound (state_of S.Register.shows C.Register.shows
         (parts b.failed b.daybook b.securities b.cash)) };
 }

@@ -124,7 +124,8 @@ impl Daybook {
         ensures { ConsentedTo (daily_of self.old) number participant result (daily_of self.new) }
     {
         let i = self.find(number).ok_or(Fault::NotOnBook)?;
-        // Stays: the new form is no plainer: what a consent changes is one rule, which the movement has.
+        // Stays: the new form is no plainer: what a consent changes is one rule, which the movement
+        // has.
         let movement = self.movements[i];
         ask(movement.has_duty(participant), Fault::NoDuty)?;
         ask(movement.is_silent(participant), Fault::AlreadyConsented)?;

@@ -12,7 +12,7 @@ use movement::{CURRENCIES, MAX_ACCOUNTS, MAX_SECURITIES};
 use register::Register;
 
 /// The last day on which a book can open.
-pub const LAST_DAY: u32 = 60_000;
+const LAST_DAY: u32 = 60_000;
 
 /// Asks what is asked of an opening, and answers the numbers of accounts and of securities.
 fn sizes<S: Register, C: Register>(

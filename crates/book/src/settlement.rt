@@ -54,8 +54,8 @@ impl<S: Register, C: Register> Book<S, C> {
             (state_of S.Register.shows C.Register.shows self.new) }
     {
         self.passed()?;
-        // Stays: the new form is no plainer: the two registers are of two types, and what is done with
-        // either is one generic function already.
+        // Stays: the new form is no plainer: the two registers are of two types, and what is done
+        // with either is one generic function already.
         match Side::try_from(place.side)? {
             Side::Securities => pay(&mut self.securities, place, entry),
             Side::Cash => pay(&mut self.cash, place, entry),
@@ -96,7 +96,8 @@ impl<S: Register, C: Register> Settlement for Book<S, C> {
 
     fn tell(&self, place: Place) -> Result<u64, Fault> {
         self.passed()?;
-        // Stays: the new form is no plainer: as above, but nothing is changed.
+        // Stays: the new form is no plainer: the two registers are of two types, and what is done
+        // with either is one generic function already.
         match Side::try_from(place.side)? {
             Side::Securities => inquire(&self.securities, place),
             Side::Cash => inquire(&self.cash, place),

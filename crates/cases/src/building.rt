@@ -15,7 +15,8 @@ pub fn table(alloc: Global, kinds: u8, accounts: u8, amount: i64) -> Result<Tabl
     Ok(Table::new(rows, usize::from(kinds)))
 }
 
-/// 32 accounts, 4 securities, everything 0. Member 1 has the custodians 1 and 2, member 2 has 3 and 4.
+/// 32 accounts, 4 securities, everything 0. Member 1 has the custodians 1 and 2, member 2 has 3 and
+/// 4.
 pub fn opened_on(alloc: Global, first_day: u32) -> Result<Depository, Fail> {
     let securities = Table::zeroed(alloc, 4, 32)?;
     let cash = Table::zeroed(alloc, 2, 32)?;

@@ -7,13 +7,13 @@ ghost use Rattle.cases.specs.Caller.{new_book, sale};
 
 use book::{Book, Place, Settlement};
 use fault::Fault;
-use movement::{Setting, Trade, TradeSide};
+use movement::{Setting, Side, Trade, TradeSide};
 use register::Table;
 use std::alloc::{AllocError, Global};
 
 // The pieces of participant 1.
 const SHARES: Place = Place {
-    side: 0,
+    side: Side::Securities as u8,
     kind: 0,
     account: 1,
 };
@@ -33,7 +33,8 @@ const BUYER: Setting = Setting {
     cash: 2,
 };
 
-// A client of member 1 sells 6 pieces to a client of member 2 for 3.00 litas, to be settled the day after tomorrow.
+// A client of member 1 sells 6 pieces to a client of member 2 for 3.00 litas, to be settled the day
+// after tomorrow.
 const SALE: Trade = Trade {
     number: 1,
     class: b'C',
@@ -54,7 +55,8 @@ const SALE: Trade = Trade {
     },
 };
 
-/// A depository with one security and two currencies on its own account and two participants'. Nothing stands yet.
+/// A depository with one security and two currencies on its own account and two participants'.
+/// Nothing stands yet.
 pub fn open(alloc: Global) -> Result<Book<Table, Table>, AllocError>
     ensures { IfOk result (λ b. state_of table_shows table_shows b ≡ new_book) }
 {
@@ -63,8 +65,8 @@ pub fn open(alloc: Global) -> Result<Book<Table, Table>, AllocError>
     Ok(Book::open(securities, cash, 0))
 }
 
-/// Participant 1 pays in 10 pieces, of which 6 are sold: the sale stands on the book. Nothing settles yet, so the
-/// participant still has 10, and that is told.
+/// Participant 1 pays in 10 pieces, of which 6 are sold: the sale stands on the book. Nothing
+/// settles yet, so the participant still has 10, and that is told.
 pub fn sell(book: &mut Book<Table, Table>) -> Result<u64, Fault>
     requires { state_of table_shows table_shows book.old ≡ new_book }
     ensures told { result ≡ Ok 10 }

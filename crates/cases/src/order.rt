@@ -1,4 +1,5 @@
-//! Every question is asked before the next: a call that fails two of them gets the number of the first.
+//! Every question is asked before the next: a call that fails two of them gets the number of the
+//! first.
 use crate::building::{Depository, compare, expect, opened};
 use crate::calls::{changed, money, shares, terms, trade};
 use book::Place;

@@ -45,7 +45,8 @@ fn columns(credits: u64, debits: u64) -> Columns {
 #[test]
 fn a_book_keeps_joined_registers(rt: HostRuntime) -> Result<(), Fail> {
     let alloc = rt.alloc();
-    // one security in a table of four accounts, two in a turnover register of three: three securities on three accounts
+    // one security in a table of four accounts, two in a turnover register of three: three
+    // securities on three accounts
     let table = Table::new(vec![in alloc; 0, 9, 0, 77]?, 1);
     let turnover = Turnover::new(vec![in alloc; columns(9, 5); 6]?, 2);
     let litas = Turnover::new(vec![in alloc; columns(9, 5); 3]?, 1);

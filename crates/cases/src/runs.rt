@@ -36,8 +36,8 @@ fn calls_and_answers() -> [(Call, Result<Answer, Fault>); 15] {
     ]
 }
 
-// The rows of both registers, after calls that show what is left: movement 1 is cancelled, movement 2 stands on the
-// book without consents, 2 is the highest number.
+// The rows of both registers, after calls that show what is left: movement 1 is cancelled, movement
+// 2 stands on the book without consents, 2 is the highest number.
 fn rows_left(mut book: Depository) -> Result<(Vec<i64>, Vec<i64>), Fail> {
     let cases = [
         (Call::Consent(1, 1), 50),

@@ -2,45 +2,39 @@
 use book::Place;
 use fault::Fault;
 use history::{Answer, Call};
+use register::Entry;
 use std::alloc::{AllocError, Global};
 
-/// Whether an amount was paid in or paid out.
-#[derive(Clone, Copy, PartialEq, Eq)]
-enum Payment {
-    In,
-    Out,
-}
-
-/// An amount that was booked at a place.
+/// What was put or taken at a place.
 #[derive(Clone, Copy)]
-struct Entry {
+struct Booking {
     place: Place,
-    payment: Payment,
-    amount: u64,
+    entry: Entry,
 }
 
 /// What was booked, in turn.
 #[derive(Drop)]
 pub struct Statement {
-    entries: Vec<Entry>,
+    bookings: Vec<Booking>,
 }
 
 impl Statement {
     /// Nothing is booked yet.
     pub fn new(alloc: Global) -> Statement {
         Statement {
-            entries: Vec::new(alloc),
+            bookings: Vec::new(alloc),
         }
     }
 
-    /// Pay-ins add, pay-outs take, nothing else moves an amount yet; a refused call leaves the statement alone.
+    /// Pay-ins add, pay-outs take, nothing else moves an amount yet; a refused call leaves the
+    /// statement alone.
     pub fn read(&mut self, call: Call, answer: Result<Answer, Fault>) -> Result<(), AllocError> {
         if answer.is_err() {
             return Ok(());
         }
         match call {
-            Call::PayIn(place, amount) => self.enter(place, Payment::In, amount),
-            Call::PayOut(place, amount) => self.enter(place, Payment::Out, amount),
+            Call::PayIn(place, amount) => self.book(place, Entry::Put(amount)),
+            Call::PayOut(place, amount) => self.book(place, Entry::Take(amount)),
             Call::Terms(_)
             | Call::Trade(_)
             | Call::Consent(_, _)
@@ -49,27 +43,19 @@ impl Statement {
         }
     }
 
-    fn enter(&mut self, place: Place, payment: Payment, amount: u64) -> Result<(), AllocError> {
-        self.entries.push(Entry {
-            place,
-            payment,
-            amount,
-        })?;
+    fn book(&mut self, place: Place, entry: Entry) -> Result<(), AllocError> {
+        self.bookings.push(Booking { place, entry })?;
         Ok(())
     }
 
-    /// What was paid in or out at a place.
-    fn paid(&self, place: Place, payment: Payment) -> u128 {
-        self.entries
+    /// What stands at a place: what was paid in less what was paid out.
+    pub fn amount(&self, place: Place) -> i128 {
+        self.bookings
             .iter()
-            .filter(|entry| entry.place == place && entry.payment == payment)
-            .map(|entry| u128::from(entry.amount))
-            .sum()
-    }
-
-    /// What stands at a place: what was paid in less what was paid out, none where that is below 0.
-    pub fn amount(&self, place: Place) -> Option<u128> {
-        self.paid(place, Payment::In)
-            .checked_sub(self.paid(place, Payment::Out))
+            .filter(|booking| booking.place == place)
+            .fold(0, |sum: i128, booking| match booking.entry {
+                Entry::Put(amount) => sum.saturating_add(i128::from(amount)),
+                Entry::Take(amount) => sum.saturating_sub(i128::from(amount)),
+            })
     }
 }

@@ -1,4 +1,5 @@
-//! A worked day: the calls on a book, each told in words, and the account statement that is kept beside it.
+//! A worked day: the calls on a book, each told in words, and the account statement that is kept
+//! beside it.
 use crate::calls::{euros, shares, terms, trade};
 use crate::depository::{Depository, open};
 use crate::statement::Statement;
@@ -62,13 +63,10 @@ impl<'a> WorkedDay<'a> {
 
     /// Compares the statement's amount of a place with the register's.
     fn compare(&mut self, words: &str, place: Place) -> anyhow::Result<()> {
-        let Some(stated) = self.statement.amount(place) else {
-            println!(self.rt; "{words}: the statement is below 0.")?;
-            return Ok(());
-        };
+        let stated = self.statement.amount(place);
         match perform(&mut self.book, Call::Tell(place)) {
             Ok(Answer::Amount(amount)) => {
-                let verdict = if stated == u128::from(amount) {
+                let verdict = if stated == i128::from(amount) {
                     "equal"
                 } else {
                     "NOT equal"

@@ -83,7 +83,8 @@ pub enum Fault {
     #[error("the length does not fit the code")]
     FrameLength = 82,
     // by a register
-    // Stays: the new form is no plainer: a variant that held the register's refusal would have no number.
+    // Stays: the new form is no plainer: a variant that held the register's refusal would have no
+    // number.
     #[error("the register does not know the kind")]
     RegisterUnknownKind = 91,
     #[error("the register does not know the account")]

@@ -1,4 +1,5 @@
-//! Faults: every reason for which a call is refused, with its number, and the questions that a call asks.
+//! Faults: every reason for which a call is refused, with its number, and the questions that a call
+//! asks.
 #![tactic(auto)]
 
 pub mod fault;

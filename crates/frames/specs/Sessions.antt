@@ -14,7 +14,7 @@ use Rattle.frames.specs.Replies.{after_line, answer_line, line_answer, longest, 
 use Rattle.frames.specs.Stream.{kept}
 
 -- the whole lines in the text of an unfinished line followed by a chunk: each newline ends one
--- (std's slice_split is no plainer: it would cut at a newline of p too, and p is text, whatever it has)
+-- Stays: the new form is no plainer: the library's slice_split would cut at a newline of p too, and p is text whatever it has
 abbrev pub lines : List ℕ → List ℕ → List (List ℕ)
 lines p [] = []
 lines p (c ∷ cs) = if c == 10 then p ∷ lines [] cs else lines (p ++ c ∷ []) cs

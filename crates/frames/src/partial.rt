@@ -10,17 +10,20 @@ use std::marker::Model;
 pub const MAX_KEPT: usize = 2 * MAX_FRAME + 1;
 
 /// The first characters of a line that comes in parts. A clause sees them as a list.
-#[derive(Drop)]
+#[derive(Clone, Drop)]
 pub struct Partial {
     characters: ArrayVec<u8, MAX_KEPT>,
 }
 
 impl Model for Partial {
-    ghost use Rattle.std.specs.Prelude.{ℕ, List};
+    ghost use Rattle.std.specs.Prelude.{ℕ, ◌≤◌, List, length};
+    ghost use Rattle.frames.specs.Stream.{most_kept};
 
     ghost Value = { List ℕ };
 
     ghost view = { λ partial. partial.characters.items };
+
+    ghost invariant = { λ partial. length partial.characters.items ≤ most_kept };
 }
 
 impl Partial {

@@ -36,8 +36,9 @@ impl<B: Settlement> Session<B> {
         }
     }
 
-    /// Answers each line that ends in a chunk of text, and keeps what is left for the next one. Where
-    /// memory is wanting, the first of the lines are answered, and nothing is said of what is kept.
+    /// Answers each line that ends in a chunk of text, and keeps what is left for the next one.
+    /// Where memory is wanting, the first of the lines are answered, and nothing is said of what is
+    /// kept.
     pub fn feed(&mut self, chunk: &[u8], out: &mut Vec<u8>) -> Result<(), AllocError>
         ensures feeds { Fed self.old.pending chunk.now
             (B.Settlement.state self.old.book) (B.Settlement.state self.new.book)
@@ -124,6 +125,8 @@ impl<B: Settlement> Session<B> {
             (B.Settlement.state self.old.book) (B.Settlement.state self.new.book)
             (W.contents output.old) (W.contents output.new))) }
     {
+        // Stays: a rule of the project: a loop that may never end would be a wait, and none is
+        // allowed.
         for _ in 0..u64::MAX {
             let count = input.read(chunk)?;
             if count == 0 {
@@ -132,6 +135,7 @@ impl<B: Settlement> Session<B> {
             }
             self.answer_chunk(&chunk[..count], out, output)?;
         }
+        // So many reads are never made; what an input that long has left would not be answered.
         Err(io::Error::from(ErrorKind::FileTooLarge))
     }
 

@@ -24,7 +24,8 @@ fn is_shaped(field: [u8; 4]) -> bool
 }
 
 // The number that its three digits write.
-// Stays: the new form is no plainer: three places by name, where a fold would take the letter along.
+// Stays: the new form is no plainer: three places by name, where a fold would take the letter
+// along.
 fn digits(field: [u8; 4]) -> u16
     requires { shaped field ≡ true }
     ensures { result ≡ digits_of field }

@@ -21,7 +21,8 @@ impl Movement {
             || self.payer() == participant && !self.buyer.consented
     }
 
-    /// The movement with a participant's consent to every duty it has, given in this half of the day.
+    /// The movement with a participant's consent to every duty it has, given in this half of the
+    /// day.
     pub fn consented(mut self, participant: u8, half: Half) -> Movement
         ensures { result ≡ consented_by self participant half }
     {

@@ -13,7 +13,8 @@ use crate::terms::Terms;
 use crate::trade::{Trade, TradeSide};
 use fault::Fault;
 
-// The party with the standard pair of its custodians: one-off terms give both duties to one participant.
+// The party with the standard pair of its custodians: one-off terms give both duties to one
+// participant.
 fn party_with(standard: (u8, u8), one_off: Option<u8>) -> Party
     ensures { result ≡ formed standard one_off }
 {
@@ -48,7 +49,8 @@ pub fn form(terms: &Terms, class: Class, trade: Trade) -> Result<Movement, Fault
 {
     let seller = party(terms, trade.seller)?;
     let buyer = party(terms, trade.buyer)?;
-    // Stays: the new form is no plainer: a conversion from the trade alone could not know the parties.
+    // Stays: the new form is no plainer: a conversion from the trade alone could not know the
+    // parties.
     Ok(Movement {
         number: trade.number,
         class,

@@ -92,7 +92,8 @@ impl Terms {
         account >= 1 && account < self.accounts
     }
 
-    /// The custodians of securities and of cash for a member's category, of main where it was never set.
+    /// The custodians of securities and of cash for a member's category, of main where it was never
+    /// set.
     // Stays: a rule of the project: the lookup answers a pair (docs/DECISIONS.md, language forms).
     pub fn look_up(&self, member: u8, category: Category) -> Option<(u8, u8)>
         ensures terms { result ≡ lookup (agreed self.now) member category }

@@ -8,8 +8,8 @@ pub struct TradeSide {
     // Stays: a rule of the project: a caller may give any letter, which is asked about in its turn.
     pub category: u8,
     /// Blank, or the participant that acts for the side this once.
-    // Stays: a rule of the project: a clearing field is four characters, any of which are asked about
-    // in their turn.
+    // Stays: a rule of the project: a clearing field is four characters, any of which are asked
+    // about in their turn.
     pub clearing: [u8; 4],
 }
 

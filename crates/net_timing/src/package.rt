@@ -7,7 +7,8 @@ use std::array;
 const PLENTY: u64 = 1_000_000;
 
 /// The movements of a case, all tried, and what each place holds.
-// Stays: a rule of the project: what netting takes is in arrays of fixed size, by movement and place.
+// Stays: a rule of the project: what netting takes is in arrays of fixed size, by movement and
+// place.
 #[derive(Clone, Copy)]
 pub struct Package {
     pub movements: [Movement; MOVEMENTS],

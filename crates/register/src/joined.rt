@@ -64,8 +64,8 @@ impl<S: Register, C: Register> Register for Joined<S, C> {
             return 0;
         }
         let first = self.first.kinds();
-        // Stays: the new form is no plainer: the two registers are of two types, and a `dyn` made for
-        // one call says no more than the two arms.
+        // Stays: the new form is no plainer: the two registers are of two types, and a `dyn` made
+        // for one call says no more than the two arms.
         if kind < first {
             self.first.tell(kind, account)
         } else {
@@ -84,7 +84,8 @@ impl<S: Register, C: Register> Register for Joined<S, C> {
     {
         self.ask_known(kind, account)?;
         let first = self.first.kinds();
-        // Stays: the new form is no plainer, as in `tell`.
+        // Stays: the new form is no plainer: the two registers are of two types, and a `dyn` made
+        // for one call says no more than the two arms.
         if kind < first {
             self.first.enter(kind, account, entry)
         } else {

@@ -12,8 +12,8 @@ use std::alloc::{AllocError, Global};
 /// Rows that no kind has, being left over, are kept and never read.
 #[derive(Drop)]
 pub struct RowRegister<X> {
-    // Stays: a rule of the project: the host hands its rows over and gets them back as they are laid
-    // out, so no other shape could hold them.
+    // Stays: a rule of the project: the host hands its rows over and gets them back as they are
+    // laid out, so no other shape could hold them.
     rows: Vec<X>,
     kinds: usize,
     // How many rows each kind has.

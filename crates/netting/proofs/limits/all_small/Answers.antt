@@ -12,5 +12,5 @@ unfolding places
 returns c =
     let amounts = c.args.amounts.now in
     let each : c.all.result ≡ list_all (λ amount. nat_le amount limit) amounts =
-        all_from_yields_List (λ amount. nat_le amount limit) _ _ _ c.all.ensures.ran (YieldsList-from_slice amounts cc) (λ x b q k. search (rules, tests)) in
+    all_from_yields_List (λ amount. nat_le amount limit) _ _ _ c.all.ensures.ran (YieldsList-from_slice amounts cc) (λ x b q k. search (rules, tests)) in
     each ∙ small_is amounts places (search rules)

@@ -9,7 +9,9 @@ use fault::Fault;
 /// A side; each has a register of its own.
 #[derive(Clone, Copy, PartialEq, Eq, Debug)]
 pub enum Side {
+    /// What is given.
     Securities,
+    /// What is paid.
     Cash,
 }
 

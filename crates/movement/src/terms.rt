@@ -35,7 +35,9 @@ pub struct Setting {
     /// A letter.
     // Stays: a rule of the project: a caller may give any letter, which is asked about in its turn.
     pub category: u8,
+    /// The custodian of securities.
     pub securities: u8,
+    /// The custodian of cash.
     pub cash: u8,
 }
 

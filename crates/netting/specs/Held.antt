@@ -21,9 +21,11 @@ marking h i inside = record h { marks = slice_set h.marks i inside }
 abbrev pub amount_after : Held → ℕ → ℤ
 amount_after h = after_posting h.movements h.amounts h.marks
 
+-- the amount of a place after posting is below 0
 abbrev pub is_short : Held → ℕ → Bool
 is_short h = short h.movements h.amounts h.marks
 
+-- no place is short
 abbrev pub no_place_is_short : Held → Bool
 no_place_is_short h = none_short h.movements h.amounts h.marks
 
@@ -31,12 +33,15 @@ no_place_is_short h = none_short h.movements h.amounts h.marks
 abbrev pub is_taker : Held → ℕ → ℕ → Bool
 is_taker h place i = in_package h.marks i && only_takes (at h.movements i) place
 
+-- who is struck next
 abbrev pub next_struck : Held → Option ℕ
 next_struck h = struck_next h.movements h.amounts h.marks
 
+-- struck, and no place would be short with it inside
 abbrev pub can_rejoin_with : Held → ℕ → Bool
 can_rejoin_with h = can_rejoin h.movements h.amounts h.tried h.marks
 
+-- who rejoins next
 abbrev pub next_rejoined : Held → Option ℕ
 next_rejoined h = rejoins_next h.movements h.amounts h.tried h.marks
 

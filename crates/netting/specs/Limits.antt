@@ -8,12 +8,15 @@ use Rattle.netting.specs.Search.{none_below}
 use Rattle.netting.specs.Places.{at, places}
 use Rattle.movement.specs.Limits.{currencies, most_accounts, most_moved, most_movements, most_securities}
 
+-- both custodians of a party are accounts that there can be
 abbrev pub known_accounts : Party → Bool
 known_accounts party = nat_lt party.securities most_accounts && nat_lt party.cash most_accounts
 
+-- so are both kinds of a movement
 abbrev pub known_kinds : Movement → Bool
 known_kinds m = nat_lt m.security most_securities && nat_lt m.currency currencies
 
+-- no leg moves more than a movement may
 abbrev pub amounts_fit : Movement → Bool
 amounts_fit m = nat_le m.quantity most_moved && nat_le m.sum most_moved
 

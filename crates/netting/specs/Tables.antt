@@ -34,6 +34,7 @@ pub record IsNear (legs : ℕ) (z : ℤ) : Type 0 where
 abbrev pub IsRoomy : ℕ → List ℤ → Type 0
 IsRoomy legs table = (p : ℕ) → p < most_places → IsNear legs (slice_index_or table p (pos 0))
 
+-- a leg between two places, of an amount that a movement may move
 pub record LegFits (leg : Leg) : Type 0 where
   pub from : leg.from < most_places
   pub to : leg.to < most_places

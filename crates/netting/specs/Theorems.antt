@@ -15,6 +15,7 @@ module _ (movements : List Movement) (amounts : List ℕ) where
   abbrev pub SomeTaker : Type 0
   SomeTaker = (marks : List Bool) (p : ℕ) → short movements amounts marks p ≡ true → (i : ℕ) × (i < length movements) × (in_package marks i ≡ true) × (only_takes (at movements i) p ≡ true)
 
+  -- no place is short
   abbrev pub NoneShort : List Bool → Type 0
   NoneShort marks = (p : ℕ) → p < most_places → short movements amounts marks p ≡ false
 

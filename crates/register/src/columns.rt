@@ -11,10 +11,13 @@ use crate::register::LIMIT;
 /// No column that a register writes is larger.
 pub const COLUMN_LIMIT: u64 = 1_000_000_000_000_000_000;
 
-/// Any two numbers are columns: what they count as is their balance, from 0 to the limit.
+/// What was put and what was taken. Any two numbers are columns: what they count as is their
+/// balance, from 0 to the limit.
 #[derive(Clone, Copy, PartialEq, Eq, Debug)]
 pub struct Columns {
+    /// What was put.
     pub credits: u64,
+    /// What was taken.
     pub debits: u64,
 }
 

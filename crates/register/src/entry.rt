@@ -9,7 +9,9 @@ use crate::register::LIMIT;
 /// A change of one amount.
 #[derive(Clone, Copy, PartialEq, Eq, Debug)]
 pub enum Entry {
+    /// An amount is put.
     Put(u64),
+    /// An amount is taken.
     Take(u64),
 }
 

@@ -10,7 +10,7 @@ use crate::entry::Entry;
 use crate::refusal::Refusal;
 use crate::register::{MOST, Register};
 
-/// Calls on a kind are passed to the part that has it.
+/// Two registers as one. Calls on a kind are passed to the part that has it.
 #[derive(Drop)]
 pub struct Joined<S: Register, C: Register> {
     first: S,
@@ -93,6 +93,8 @@ impl<S: Register, C: Register> Register for Joined<S, C> {
         }
     }
 
+    // Stays: a rule of the project: put and take are the callers' words, each with its own promise
+    // (docs/DECISIONS.md).
     fn put(&mut self, kind: usize, account: usize, amount: u64) -> Result<(), Refusal>
         ensures put { Put (joined_shows S.Register.shows C.Register.shows self.old)
             kind account amount result

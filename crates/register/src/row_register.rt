@@ -9,7 +9,8 @@ use crate::refusal::Refusal;
 use crate::register::{MOST, Register};
 use std::alloc::{AllocError, Global};
 
-/// Rows that no kind has, being left over, are kept and never read.
+/// A register over the rows of a host, as many for each kind. Rows that no kind has, being left
+/// over, are kept and never read.
 #[derive(Drop)]
 pub struct RowRegister<X> {
     // Stays: a rule of the project: the host hands its rows over and gets them back as they are
@@ -140,6 +141,8 @@ impl<X: Cell> Register for RowRegister<X> {
         Ok(())
     }
 
+    // Stays: a rule of the project: put and take are the callers' words, each with its own promise
+    // (docs/DECISIONS.md).
     fn put(&mut self, kind: usize, account: usize, amount: u64) -> Result<(), Refusal>
         ensures put { Put (holdings_of X.amount X.empty self.old) kind account amount result
             (holdings_of X.amount X.empty self.new) }

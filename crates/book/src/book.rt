@@ -11,7 +11,9 @@ use std::marker::Model;
 #[derive(Drop)]
 pub struct Book<S: Register, C: Register> {
     // The opening question that failed, if one did.
-    // Stays: the new form is no plainer: it is no result of a call, but what every call answers.
+    // Stays: the new form is no plainer: the rules' state has the fault as an Option, and after a
+    // failed opening a day book with its day and sizes of 0 beside it, so a Result of the day book
+    // would have to keep both.
     pub(crate) failed: Option<Fault>,
     pub(crate) daybook: Daybook,
     pub(crate) securities: S,

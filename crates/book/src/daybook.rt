@@ -16,6 +16,7 @@ pub const LONGEST_WAIT: u32 = 30;
 #[derive(Drop)]
 pub struct Daybook {
     // the number of securities, 0 where the opening failed
+    // Stays: the new form is no plainer: the rules' state notes 0 there (docs/DECISIONS.md).
     kinds: u8,
     day: u32,
     half: Half,

@@ -12,6 +12,8 @@ use movement::MAX_MOVED;
 use register::{Entry, LIMIT, Register};
 
 /// Asks what is asked of an amount paid into an account or out of it.
+// Stays: the new form is no plainer: calls come with a place and an amount, and a struct of place and
+// entry would be made for one call and taken apart in it.
 fn payable<R: Register>(register: &R, place: Place, entry: Entry) -> Result<(), Fault>
     ensures { result ≡ passes (payment_questions (R.Register.shows register.now) place entry) }
 {

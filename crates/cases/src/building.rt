@@ -32,6 +32,8 @@ pub fn opened(alloc: Global) -> Result<Depository, Fail> {
 }
 
 /// Makes a call, and compares the number of its answer, 0 where it is accepted.
+// Stays: the new form is no plainer: a table says the numbers of docs/RULES.md, and 0 is none of
+// them.
 pub fn expect<S: Register, C: Register>(
     book: &mut Book<S, C>,
     call: Call,

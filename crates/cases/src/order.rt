@@ -45,6 +45,8 @@ fn compare_by_two(book: &mut Depository, number: u32) -> Result<(), Fail> {
         (Change::new(|t| t.buyer.clearing = *b"R032"), 30),
         (Change::new(|t| t.buyer.clearing = *b"V032"), 31),
     ];
+    // Stays: the new form is no plainer: each second change stands at the first's own place or
+    // after it.
     for (i, (first, expected)) in refused.iter().enumerate() {
         for (second, _) in refused.iter().skip(i) {
             let twice = changed(number, |t| {

@@ -3,6 +3,8 @@ use book::Place;
 use history::Call;
 use movement::{Setting, Side, Trade, TradeSide};
 
+// Stays: the new form is no plainer: a public function of book, with a contract and an edit of its
+// own, for a record of three fields that a program and the tests write once each.
 fn place(side: Side, kind: u8, account: u8) -> Place {
     Place {
         side: side as u8,

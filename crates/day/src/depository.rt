@@ -11,6 +11,8 @@ const SECURITIES: usize = 2;
 pub type Depository = Book<Table, Joined<Table, Turnover>>;
 
 /// Opens on day 0, everything 0.
+// Stays: the new form is no plainer: two programs open so, neither of which can call the other, and
+// no crate below should know which currency stands in which register.
 pub fn open(alloc: Global) -> Result<Depository, AllocError> {
     let securities = Table::zeroed(alloc, SECURITIES, ACCOUNTS)?;
     let litas = Table::zeroed(alloc, 1, ACCOUNTS)?;

@@ -8,7 +8,7 @@ ghost use Rattle.frames.specs.Codes.{frame_len};
 use crate::bytes::field;
 use crate::code::Code;
 use book::Place;
-use fault::Fault;
+use fault::{Fault, ask};
 use history::Call;
 use movement::{Setting, Trade, TradeSide};
 
@@ -20,9 +20,7 @@ pub fn decode(bytes: &[u8]) -> Result<Call, Fault>
         return Err(Fault::UnknownCode);
     };
     let code = Code::try_from(*code)?;
-    if bytes.len() != code.frame_len() {
-        return Err(Fault::FrameLength);
-    }
+    ask(bytes.len() == code.frame_len(), Fault::FrameLength)?;
     Ok(call_in(code, fields))
 }
 

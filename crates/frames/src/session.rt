@@ -112,6 +112,8 @@ impl<B: Settlement> Session<B> {
     }
 
     // The same, with room for what is read at a time and for the answers to that much.
+    // Stays: the new form is no plainer: a struct of buffer and writer would be made by `serve` alone,
+    // and taken apart for `feed`, which has the buffer and no writer.
     fn serve_with<R: Read, W: Write>(
         &mut self,
         chunk: &mut [u8],

@@ -17,6 +17,8 @@ pub enum Call {
 }
 
 /// What an accepted call answers.
+// Stays: the new form is no plainer: `None` would say that nothing is told, where `Done` says that
+// the call was done.
 #[derive(Clone, Copy, PartialEq, Eq, Debug)]
 pub enum Answer {
     Done,

@@ -43,6 +43,7 @@ leg_of Cash m = record {
 }
 
 -- what a leg takes from a place, and what it brings to it
+-- Stays: the new form is no plainer: the theorems speak of what is taken and of what is brought by these names.
 abbrev pub leg_takes : Leg → ℕ → ℕ
 leg_takes leg p = if p == leg.from then leg.amount else 0
 

@@ -12,6 +12,7 @@ abbrev pub sum_marked : ℕ → List Bool → (ℕ → ℕ) → ℕ
 sum_marked n marks f = sum_below n (λ i. if in_package marks i then f i else 0)
 
 -- what the first n movements of a package bring to a place and take from it
+-- Stays: the new form is no plainer: the theorems speak of what is taken and of what is brought by these names.
 abbrev pub brought_by : ℕ → List Movement → List Bool → ℕ → ℕ
 brought_by n movements marks p = sum_marked n marks (λ i. brings (at movements i) p)
 

@@ -36,6 +36,8 @@ fn shift(amounts: &mut [i64; PLACES], place: usize, by: i64)
 }
 
 // Takes a leg's amount from one place and brings it to the other, or back where it leaves.
+// Stays: the new form is no plainer: each of the three that ask for room asks for another width of
+// it.
 fn post_leg(amounts: &mut [i64; PLACES], leg: Leg, inside: bool)
     requires fits { LegFits leg }
     requires room { IsRoomy (most_legs + 1) amounts.old }

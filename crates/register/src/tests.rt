@@ -3,6 +3,8 @@ use crate::{COLUMN_LIMIT, Columns, Joined, LIMIT, Refusal, Register, Table, Turn
 use std::test::Fail;
 
 // 0 where the call was answered, else the number of the refusal.
+// Stays: the new form is no plainer: a table says the numbers of docs/RULES.md, and 0 is none of
+// them.
 fn number(answer: Result<(), Refusal>) -> u8 {
     match answer {
         Ok(()) => 0,

@@ -5,17 +5,14 @@ use std::test::*;
 
 // Gives its text a byte at a time, and then an error.
 #[derive(Drop)]
-struct Torn<'a> {
-    text: &'a [u8],
-    at: usize,
-}
+struct Torn<'a>(&'a [u8]);
 
 impl<'a> Read for Torn<'a> {
     fn read(&mut self, buf: &mut [u8]) -> io::Result<usize> {
-        match (self.text.get(self.at), buf.first_mut()) {
-            (Some(byte), Some(place)) => {
+        match (self.0.split_first(), buf.first_mut()) {
+            (Some((byte, rest)), Some(place)) => {
                 *place = *byte;
-                self.at = self.at.saturating_add(1);
+                self.0 = rest;
                 Ok(1)
             }
             _ => Err(io::Error::from(ErrorKind::ConnectionReset)),
@@ -35,10 +32,7 @@ fn answers_each_line_and_the_last_without_its_end(rt: HostRuntime) -> Result<(),
 
 #[test]
 fn answers_the_whole_lines_before_an_error(rt: HostRuntime) -> Result<(), Fail> {
-    let mut input = Torn {
-        text: b"01000001000000000000000A\n0A0000",
-        at: 0,
-    };
+    let mut input = Torn(b"01000001000000000000000A\n0A0000");
     let mut output = Vec::new(rt.alloc());
     let result = settle(rt.alloc(), &mut input, &mut output);
     assert!(rt; result.is_err_and(|e| e.kind() == ErrorKind::ConnectionReset));

@@ -62,6 +62,16 @@ def close(ts, i):
     return i
 
 
+def until(ts, k, ends):
+    """The tokens from k to the first of `ends`, with what stands in brackets taken whole, and where they end."""
+    got = []
+    while k < len(ts) and ts[k] not in ends:
+        end = close(ts, k) if ts[k] in OPEN else k + 1
+        got += ts[k:end]
+        k = end
+    return got, k
+
+
 def split(ts, sep=","):
     """Parts between separators at depth 0; angle brackets count too."""
     parts, part, depth, angle = [], [], 0, 0
@@ -188,15 +198,7 @@ def parse(ts, file, test, owner=""):
             k = end
             ret = []
             if k < len(ts) and ts[k] == "->":
-                k += 1
-                while k < len(ts) and ts[k] not in ("{", ";", "requires", "ensures", "where"):
-                    if ts[k] in ("[", "("):
-                        e = close(ts, k)
-                        ret += ts[k:e]
-                        k = e
-                    else:
-                        ret.append(ts[k])
-                        k += 1
+                ret, k = until(ts, k + 1, ("{", ";", "requires", "ensures", "where"))
             clauses = []
             while k < len(ts) and ts[k] in ("requires", "ensures", "where"):
                 word = ts[k]
@@ -304,14 +306,7 @@ def matches(body):
                 v = inner[k:ee]
                 k = ee
             else:
-                while k < len(inner) and inner[k] != ",":
-                    if inner[k] in OPEN:
-                        ee = close(inner, k)
-                        v += inner[k:ee]
-                        k = ee
-                    else:
-                        v.append(inner[k])
-                        k += 1
+                v, k = until(inner, k, (",",))
             if k < len(inner) and inner[k] == ",":
                 k += 1
             arms.append((p, v))

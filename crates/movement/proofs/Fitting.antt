@@ -1,6 +1,7 @@
--- Movements stay within their bounds.
-use Rattle.std.proofs.Common.{◌≡◌, ℕ, zero, suc, ◌<◌, Bool, true, cond, ◌||◌, List, [], ◌∷◌, ◌++◌, length, get_or, set, is_some, Some, None, Option, refl, ◌∙◌, arith}
+-- Terms and movements stay within their bounds.
+use Rattle.std.proofs.Common.{◌≡◌, ℕ, zero, suc, ◌<◌, ◌≤◌, Bool, true, cond, ◌||◌, List, [], ◌∷◌, ◌++◌, length, get_or, set, is_some, Some, None, Option, refl, ◌∙◌, arith}
 use Rattle.std.proofs.lemmas.Bool.{and_from}
+use Rattle.std.proofs.lemmas.Bool.Decides.{nat_tests}
 use Rattle.std.proofs.lemmas.List.Elements.{All-get_or, All-set}
 use Rattle.std.proofs.lemmas.List.Folds.{list_all-append}
 use Rattle.std.proofs.lemmas.List.Sums.{AllPass-from_list_all, list_all-from_AllPass}
@@ -18,6 +19,13 @@ use Rattle.movement.specs.Clearing.{blank, digits, one_off_of}
 use Rattle.movement.specs.Forming.{standard_pair, side_questions, formed, party_of}
 use Rattle.movement.specs.Settings.{participant_known}
 use Rattle.movement.specs.Bounds.{agreed_fits, TermsFit, party_fits, movement_fits, all_fit}
+
+-- a participant of a book is one of a larger book too
+wider_fits : (accounts more : ℕ) (o : Option (ℕ × ℕ)) → accounts ≤ more → agreed_fits accounts o ≡ true → agreed_fits more o ≡ true
+wider_fits accounts more o most fits = grind (arith, nat_tests)
+
+pub wider_fit : (accounts more : ℕ) (t : Agreed) → accounts ≤ more → TermsFit accounts t → TermsFit more t
+wider_fit accounts more t most fit m c = wider_fits accounts more (t m c) most (fit m c)
 
 -- what the lookup answers
 pub lookup_fits : (accounts : ℕ) (t : Agreed) (m : ℕ) (c : Category) → TermsFit accounts t → agreed_fits accounts (lookup t m c) ≡ true

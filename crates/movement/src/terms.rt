@@ -1,9 +1,10 @@
 //! The terms of a book's members: the custodians that act for each, category by category.
-ghost use Rattle.std.specs.Prelude.{◌≡◌, true, if◌then◌else◌, Some, ◌==◌, is_ok, max};
+ghost use Rattle.std.specs.Prelude.{◌≡◌, true, if◌then◌else◌, Some, ◌==◌, is_ok, length, max};
 ghost use Rattle.movement.specs.declared.category.Category.{Category};
 ghost use Rattle.movement.specs.Agreed.{member_known};
 ghost use Rattle.movement.specs.Bounds.{TermsFit};
 ghost use Rattle.movement.specs.Letters.{row as row_of};
+ghost use Rattle.movement.specs.Limits.{categories};
 ghost use Rattle.movement.specs.MemberRows.{agreed_in, pair_in};
 ghost use Rattle.movement.specs.Settings.{participant_known};
 
@@ -44,10 +45,11 @@ pub struct Setting {
 }
 
 impl MemberRow {
-    // Sets one category.
+    // Sets one category; a row has a place for each of them and no more.
     fn set(&mut self, category: Category, custodians: (u8, u8))
-        ensures { (d : Category) → pair_in self.new d
+        ensures pairs { (d : Category) → pair_in self.new d
             ≡ (if row_of d == row_of category then Some custodians else pair_in self.old d) }
+        ensures places { length self.new.pairs ≡ categories }
     {
         self.pairs[category.row()] = Some(custodians);
     }

@@ -1,23 +1,57 @@
--- Movements stay within their bounds.
-use Rattle.std.proofs.Common.{◌≡◌, ℕ, zero, suc, ◌<◌, Bool, true, cond, ◌||◌, List, [], ◌∷◌, ◌++◌, length, get_or, set, is_some, Some, None, Option, refl, ◌∙◌, arith}
-use Rattle.std.proofs.lemmas.Bool.{and_from}
+-- Terms and movements stay within their bounds.
+use Rattle.std.proofs.Common.{◌≡◌, ℕ, zero, suc, ◌<◌, ◌≤◌, Bool, true, cond, ◌&&◌, ◌||◌, eqb, List, [], ◌∷◌, ◌++◌, length, get_or, set, is_some, is_ok, Some, None, Ok, Option, Result, refl, ◌∙◌, arith}
+use Rattle.std.proofs.lemmas.Bool.{and_from, cond_both}
+use Rattle.std.proofs.lemmas.Bool.Decides.{nat_tests}
 use Rattle.std.proofs.lemmas.List.Elements.{All-get_or, All-set}
 use Rattle.std.proofs.lemmas.List.Folds.{list_all-append}
 use Rattle.std.proofs.lemmas.List.Sums.{AllPass-from_list_all, list_all-from_AllPass}
 use Rattle.std.specs.List.{list_all, remove}
-use Rattle.std.specs.Option.{option_and_then, option_or, unwrap_or}
-use Rattle.fault.specs.Questions.{first_no}
+use Rattle.std.specs.Option.{option_and_then, option_map_or, option_or, unwrap_or}
+use Rattle.register.specs.Answers.{Changed}
+use Rattle.fault.specs.declared.fault.Fault.{Fault}
+use Rattle.fault.specs.Questions.{first_no, passes, unless}
 use Rattle.fault.proofs.Asking.{all_hold}
 use Rattle.movement.specs.declared.category.Category.{Category}
 use Rattle.movement.specs.declared.category.Category.TheVariants.{Main}
 use Rattle.movement.specs.declared.movement.Movement.{Movement}
+use Rattle.movement.specs.declared.terms.Setting.{Setting}
 use Rattle.movement.specs.declared.trade.TradeSide.{TradeSide}
-use Rattle.movement.specs.Agreed.{Agreed, lookup, member_known}
-use Rattle.movement.specs.Letters.{category_of}
+use Rattle.movement.specs.Agreed.{Agreed, lookup, member_known, with_terms}
+use Rattle.movement.specs.Letters.{category_of, row}
 use Rattle.movement.specs.Clearing.{blank, digits, one_off_of}
 use Rattle.movement.specs.Forming.{standard_pair, side_questions, formed, party_of}
-use Rattle.movement.specs.Settings.{participant_known}
-use Rattle.movement.specs.Bounds.{agreed_fits, TermsFit, party_fits, movement_fits, all_fit}
+use Rattle.movement.specs.Settings.{participant_known, terms_after, terms_questions}
+use Rattle.movement.specs.Bounds.{pair_fits, agreed_fits, TermsFit, party_fits, movement_fits, all_fit}
+
+-- a participant of a book is one of a larger book too
+wider_fits : (accounts more : ℕ) (o : Option (ℕ × ℕ)) → accounts ≤ more → agreed_fits accounts o ≡ true → agreed_fits more o ≡ true
+wider_fits accounts more o most fits = grind (arith, nat_tests)
+
+pub wider_fit : (accounts more : ℕ) (t : Agreed) → accounts ≤ more → TermsFit accounts t → TermsFit more t
+wider_fit accounts more t most fit m c = wider_fits accounts more (t m c) most (fit m c)
+
+-- one category set to participants
+pub with_fit : (accounts : ℕ) (t : Agreed) (m : ℕ) (c : Category) (pair : ℕ × ℕ) → TermsFit accounts t → pair_fits accounts pair ≡ true → TermsFit accounts (with_terms t m c pair)
+with_fit accounts t m c pair before fits n d =
+    cond_both (eqb n m && eqb (row d) (row c)) (Some pair) (t n d) (λ o. agreed_fits accounts o ≡ true) (λ q. fits) (λ q. before n d)
+
+-- a setting whose questions were passed
+pub after_fit : (accounts : ℕ) (t : Agreed) (x : Setting) → TermsFit accounts t → first_no (terms_questions accounts x) ≡ None → TermsFit accounts (terms_after t x)
+after_fit accounts t x before passed =
+    by_category (category_of x.category)
+  where
+    by_category : (o : Option Category) → TermsFit accounts (option_map_or (λ c. with_terms t x.member c (x.securities, x.cash)) o t)
+    by_category (Some c) = with_fit accounts t x.member c (x.securities, x.cash) before (all_hold (terms_questions accounts x) passed).1.1.0
+    by_category None = before
+
+-- terms that were set, or refused
+pub changed_fit : (accounts : ℕ) (t : Agreed) (x : Setting) {r : Result Unit Fault} {u : Agreed} → TermsFit accounts t → Changed t (passes (terms_questions accounts x)) (terms_after t x) r u → TermsFit accounts u
+changed_fit accounts t x {r} {u} fit change =
+    by_question (first_no (terms_questions accounts x)) refl change.after
+  where
+    by_question : (o : Option Fault) → first_no (terms_questions accounts x) ≡ o → u ≡ cond (is_ok (unless {A = Unit {0}} o (Ok tt))) (terms_after t x) t → TermsFit accounts u
+    by_question None e after = rw after (after_fit accounts t x fit e)
+    by_question (Some f) e after = rw after fit
 
 -- what the lookup answers
 pub lookup_fits : (accounts : ℕ) (t : Agreed) (m : ℕ) (c : Category) → TermsFit accounts t → agreed_fits accounts (lookup t m c) ≡ true

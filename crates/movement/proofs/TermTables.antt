@@ -1,17 +1,17 @@
 -- What the table of terms says when it is new, and after one of its elements is written.
-use Rattle.std.proofs.Common.{◌≡◌, ℕ, ◌-◌, ◌<◌, true, cond, ◌&&◌, eqb, List, length, get_or, set, replicate, Some, None, ap, ◌∙◌, arith}
+use Rattle.std.proofs.Common.{◌≡◌, ℕ, ◌-◌, ◌<◌, true, cond, eqb, List, length, get_or, set, replicate, Some, None, sym, subst, arith}
 use mathlib.Core.Path.{fun_ext}
 use Rattle.std.proofs.lemmas.List.{get_or-replicate, get_or-set_other}
 use Rattle.std.proofs.lemmas.Grind.{get_or-set_at}
-use Rattle.std.proofs.lemmas.Bool.{cond_both}
 use Rattle.std.proofs.lemmas.Bool.Decides.{nat_tests}
 use Rattle.movement.specs.declared.category.Category.{Category}
 use Rattle.movement.specs.declared.limits.TheConstants.{MEMBERS, CATEGORIES}
 use Rattle.movement.specs.declared.terms.MemberRow.{MemberRow}
 use Rattle.movement.specs.Letters.{row}
 use Rattle.movement.specs.Agreed.{member_known, none_agreed, with_terms}
-use Rattle.movement.specs.Bounds.{TermsFit, agreed_fits, pair_fits}
+use Rattle.movement.specs.Bounds.{TermsFit, pair_fits}
 use Rattle.movement.specs.MemberRows.{agreed_in, empty_row, pair_in}
+use Rattle.movement.proofs.Fitting.{with_fit}
 
 row_few : (c : Category) → row c < CATEGORIES
 row_few c = grind arith
@@ -31,6 +31,4 @@ module _ (rows : List MemberRow) (m : ℕ) (c : Category) (p : ℕ × ℕ) (afte
   set_agreed = fun_ext (λ n. fun_ext (λ d. set_at n d))
 
   pub set_fit : (accounts : ℕ) → TermsFit accounts (agreed_in rows) → pair_fits accounts p ≡ true → TermsFit accounts (agreed_in (set rows (m - 1) after))
-  set_fit accounts before fits n d =
-      ap (agreed_fits accounts) (set_at n d)
-      ∙ cond_both (eqb n m && eqb (row d) (row c)) (Some p) (agreed_in rows n d) (λ o. agreed_fits accounts o ≡ true) (λ q. fits) (λ q. before n d)
+  set_fit accounts before fits = subst (TermsFit accounts) (sym set_agreed) (with_fit accounts (agreed_in rows) m c p before fits)

@@ -28,27 +28,39 @@ fn party_with(standard: (u8, u8), one_off: Option<u8>) -> Party
     }
 }
 
-// The party of one side of a trade.
-fn party(terms: &Terms, side: TradeSide) -> Result<Party, Fault>
+// The party of one side of a trade, in a book of so many accounts.
+fn party(terms: &Terms, accounts: u8, side: TradeSide) -> Result<Party, Fault>
     ensures { result ≡ asked
-        (side_questions (agreed terms.now) (accounts_of terms.now) side)
+        (side_questions (agreed terms.now) accounts side)
         (party_of (agreed terms.now) side) }
 {
     let category = Category::try_from(side.category)?;
     let standard = terms.look_up(side.member, category).ok_or(Fault::NoTerms)?;
-    let one_off = one_off_participant(side.clearing, terms.accounts())?;
+    let one_off = one_off_participant(side.clearing, accounts)?;
     Ok(party_with(standard, one_off))
 }
 
-/// The movement of a trade of a known class, by the terms as they stand.
+/// The movement of a trade of a known class in the book of the terms, by these as they stand.
 pub fn form(terms: &Terms, class: Class, trade: Trade) -> Result<Movement, Fault>
     ensures { result ≡ asked
         (side_questions (agreed terms.now) (accounts_of terms.now) trade.seller
         ++ side_questions (agreed terms.now) (accounts_of terms.now) trade.buyer)
         (movement_of (agreed terms.now) class trade) }
 {
-    let seller = party(terms, trade.seller)?;
-    let buyer = party(terms, trade.buyer)?;
+    form_for(terms, terms.accounts(), class, trade)
+}
+
+/// The movement of a trade of a known class in a book of so many accounts, where one table of terms
+/// serves books of several sizes: a clearing field may name a participant of that book alone. The
+/// custodians are as the terms have them, for whichever book they were set.
+pub fn form_for(terms: &Terms, accounts: u8, class: Class, trade: Trade) -> Result<Movement, Fault>
+    ensures { result ≡ asked
+        (side_questions (agreed terms.now) accounts trade.seller
+        ++ side_questions (agreed terms.now) accounts trade.buyer)
+        (movement_of (agreed terms.now) class trade) }
+{
+    let seller = party(terms, accounts, trade.seller)?;
+    let buyer = party(terms, accounts, trade.buyer)?;
     // Stays: the new form is no plainer: a conversion from the trade alone could not know the
     // parties.
     Ok(Movement {

@@ -18,7 +18,7 @@ pub mod trade;
 pub use category::Category;
 pub use class::Class;
 pub use clearing::one_off_participant;
-pub use forming::form;
+pub use forming::{form, form_for};
 pub use half::Half;
 pub use limits::{
     CATEGORIES, CURRENCIES, MAX_ACCOUNTS, MAX_MOVED, MAX_MOVEMENTS, MAX_SECURITIES, MEMBERS,

@@ -1,10 +1,12 @@
 //! The terms of a book's members: the custodians that act for each, category by category.
-ghost use Rattle.std.specs.Prelude.{◌≡◌, true, if◌then◌else◌, Some, ◌==◌};
+ghost use Rattle.std.specs.Prelude.{◌≡◌, true, if◌then◌else◌, Some, ◌==◌, is_ok, length, max};
 ghost use Rattle.movement.specs.declared.category.Category.{Category};
 ghost use Rattle.movement.specs.Agreed.{member_known};
 ghost use Rattle.movement.specs.Bounds.{TermsFit};
 ghost use Rattle.movement.specs.Letters.{row as row_of};
+ghost use Rattle.movement.specs.Limits.{categories};
 ghost use Rattle.movement.specs.MemberRows.{agreed_in, pair_in};
+ghost use Rattle.movement.specs.Settings.{participant_known};
 
 use crate::category::Category;
 use crate::limits::{CATEGORIES, MEMBERS};
@@ -19,7 +21,8 @@ pub struct MemberRow {
 /// The terms of all members of a book, whose custodians are participants of it.
 #[derive(Clone, Copy)]
 pub struct Terms {
-    // how many accounts the book has; those from 1 on are participants
+    // how many accounts the book has, the largest one where terms were set for other books too;
+    // those from 1 on are participants
     accounts: u8,
     // Stays: a rule of the project: rows of fixed size in a plain struct, which want no memory
     // (docs/DECISIONS.md, language forms).
@@ -42,10 +45,11 @@ pub struct Setting {
 }
 
 impl MemberRow {
-    // Sets one category.
+    // Sets one category; a row has a place for each of them and no more.
     fn set(&mut self, category: Category, custodians: (u8, u8))
-        ensures { (d : Category) → pair_in self.new d
+        ensures pairs { (d : Category) → pair_in self.new d
             ≡ (if row_of d == row_of category then Some custodians else pair_in self.old d) }
+        ensures places { length self.new.pairs ≡ categories }
     {
         self.pairs[category.row()] = Some(custodians);
     }
@@ -58,12 +62,19 @@ fn is_member(member: u8) -> bool
     member >= 1 && usize::from(member) <= MEMBERS
 }
 
+// Whether an account is a participant's in a book of so many accounts.
+fn is_participant(account: u8, accounts: u8) -> bool
+    ensures { result ≡ participant_known accounts account }
+{
+    account >= 1 && account < accounts
+}
+
 impl Terms {
     ghost use Rattle.register.specs.Answers.{Changed};
     ghost use Rattle.fault.specs.Questions.{passes};
     ghost use Rattle.movement.specs.Agreed.{lookup, none_agreed, with_terms};
     ghost use Rattle.movement.specs.Bounds.{agreed_fits, pair_fits};
-    ghost use Rattle.movement.specs.Settings.{participant_known, terms_after, terms_questions};
+    ghost use Rattle.movement.specs.Settings.{terms_after, terms_questions};
     ghost use Rattle.movement.specs.Terms.{accounts_of, agreed};
 
     /// No terms are set, in a book of so many accounts.
@@ -80,7 +91,7 @@ impl Terms {
         }
     }
 
-    /// How many accounts the book has.
+    /// How many accounts the book has, the largest one where terms were set for other books too.
     pub fn accounts(&self) -> u8
         ensures { result ≡ accounts_of self.now }
     {
@@ -91,7 +102,7 @@ impl Terms {
     pub fn is_participant(&self, account: u8) -> bool
         ensures { result ≡ participant_known (accounts_of self.now) account }
     {
-        account >= 1 && account < self.accounts
+        is_participant(account, self.accounts)
     }
 
     /// The custodians of securities and of cash for a member's category, of main where it was never
@@ -118,12 +129,29 @@ impl Terms {
             (agreed self.new) }
         ensures accounts { accounts_of self.new ≡ accounts_of self.old }
     {
+        self.agree_for(self.accounts, setting)
+    }
+
+    /// Sets the terms of one category of one member for a book of so many accounts, where one table
+    /// of terms serves books of several sizes: the custodians are to be participants of that book.
+    /// Where they are accepted, the terms count as those of the larger book from then on.
+    pub fn agree_for(&mut self, accounts: u8, setting: Setting) -> Result<(), Fault>
+        ensures terms { Changed
+            (agreed self.old)
+            (passes (terms_questions accounts setting))
+            (terms_after (agreed self.old) setting)
+            result
+            (agreed self.new) }
+        ensures accounts { accounts_of self.new
+            ≡ (if is_ok result then max (accounts_of self.old) accounts else accounts_of self.old) }
+    {
         ask(is_member(setting.member), Fault::UnknownMember)?;
         let category = Category::try_from(setting.category).map_err(|_| Fault::TermsCategory)?;
         ask(
-            self.is_participant(setting.securities) && self.is_participant(setting.cash),
+            is_participant(setting.securities, accounts) && is_participant(setting.cash, accounts),
             Fault::TermsCustodian,
         )?;
+        self.accounts = self.accounts.max(accounts);
         self.set(setting.member, category, (setting.securities, setting.cash));
         Ok(())
     }

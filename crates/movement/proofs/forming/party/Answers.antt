@@ -5,7 +5,7 @@ use Rattle.movement.specs.Agreed.{lookup}
 use Rattle.movement.specs.Letters.{category_of}
 use Rattle.movement.specs.Clearing.{clearing_questions, one_off_of}
 use Rattle.movement.specs.Forming.{formed, party_of}
-use Rattle.movement.specs.Terms.{accounts_of, agreed}
+use Rattle.movement.specs.Terms.{agreed}
 use Rattle.movement.proofs.Sides.{clearing_left, party_formed}
 use Rattle.movement.proofs.forming.party.Goals as goal
 
@@ -13,7 +13,7 @@ pub returns-in_err-one_off : goal.returns-in_err-one_off
 returns-in_err-one_off c =
     let t = agreed c.args.terms.now in
     let side = c.args.side in
-    let accounts = accounts_of c.args.terms.now in
+    let accounts = c.args.accounts in
     let category : category_of side.category ≡ Some c.in_ok-category.category = search rules in
     let terms : lookup t side.member c.in_ok-category.category ≡ Some c.in_ok-standard.standard = search rules in
     let p = err_from_is_err_and c.from_residual-in_err-one_off.result c.from_residual-in_err-one_off.ensures.1 in
@@ -26,7 +26,7 @@ pub returns : goal.returns
 returns c =
     let t = agreed c.args.terms.now in
     let side = c.args.side in
-    let accounts = accounts_of c.args.terms.now in
+    let accounts = c.args.accounts in
     let category : category_of side.category ≡ Some c.in_ok-category.category = search rules in
     let terms : lookup t side.member c.in_ok-category.category ≡ Some c.in_ok-standard.standard = search rules in
     let value = asked_value (clearing_questions accounts side.clearing) (one_off_of side.clearing) (party_of t side) {x = c.in_ok-one_off.one_off} (search rules) in

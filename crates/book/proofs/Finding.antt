@@ -1,5 +1,5 @@
 -- The first movement of a number.
-use Rattle.std.proofs.Common.{◌≡◌, ℕ, true, cond, List, [], ◌∷◌, length, get_or, set, is_some, Some, None, Ok, Option, sym, refl, ap, ◌∙◌, arith}
+use Rattle.std.proofs.Common.{◌≡◌, ℕ, ◌≤◌, true, cond, List, [], ◌∷◌, length, get_or, set, is_some, Some, None, Ok, Option, sym, refl, ap, ◌∙◌, arith}
 use Rattle.std.proofs.lemmas.Bool.{lt-ltb}
 use Rattle.std.proofs.lemmas.List.{length-set}
 use Rattle.std.proofs.lemmas.List.Folds.{find_at}
@@ -80,6 +80,10 @@ module _ (d : Daily) (n p i : ℕ) (at : FoundAt d.movements n i) where
   consented_rising highest half seen left m x rising same given written =
       let number : x.number ≡ (get_or d.movements i m).number = ap (λ y. y.number) (given ∙ ap (λ ms. consented (get_or ms i m) p half) same) in
       rw written (rising_set d.movements i m x at.within number highest rising)
+
+-- as many as before where one is written over another
+pub consented_few : (most i : ℕ) (before left : List Movement) (x : Movement) → length before ≤ most → left ≡ set before i x → length left ≤ most
+consented_few most i before left x few written = rw written (simp (length-set before i x) few)
 
 -- a movement written in its place
 pub written_at : (v : ArrayVec Movement) (i : ℕ) (seen : List Movement) (x : Movement) → seen ≡ v.items → (with_items v (set seen i x)).items ≡ set v.items i x

@@ -1,5 +1,7 @@
 //! What a book keeps of its day, its members and its movements.
-ghost use Rattle.std.specs.Prelude.{◌≡◌, true};
+ghost use Rattle.std.specs.Prelude.{◌≡◌, ◌≤◌, true};
+ghost use Rattle.arrayvec.specs.ArrayVec.{array_vec_len};
+ghost use Rattle.movement.specs.Limits.{most_movements};
 ghost use Rattle.movement.specs.Bounds.{all_fit};
 ghost use Rattle.movement.specs.Terms.{accounts_of};
 ghost use Rattle.book.specs.Rising.{IsRising};
@@ -29,13 +31,13 @@ pub struct Daybook {
     ghost bounds: { all_fit (accounts_of terms) kinds movements.items ≡ true },
     // they rise, and none is above the highest number accepted
     ghost rising: { IsRising highest movements.items },
+    // they are no more than a book holds
+    ghost few: { array_vec_len movements ≤ most_movements },
 }
 
 impl Daybook {
     ghost use Rattle.std.specs.Prelude.{◌<◌, is_ok, None, position, MatchOption};
-    ghost use Rattle.arrayvec.specs.ArrayVec.{array_vec_len};
     ghost use Rattle.fault.specs.Questions.{asked};
-    ghost use Rattle.movement.specs.Limits.{most_movements};
     ghost use Rattle.book.specs.Books.{daily_of};
     ghost use Rattle.book.specs.Daily.{basic_questions, trade_questions, class_known, traded};
     ghost use Rattle.book.specs.Daily.{cancellable, has_number, on_book};

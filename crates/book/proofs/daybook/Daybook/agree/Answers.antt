@@ -8,4 +8,5 @@ invariant_of-self c =
     record {
       bounds = ap (λ a. all_fit a self.kinds self.movements.items) c.agree.ensures.accounts ∙ self.bounds;
       rising = self.rising;
+      few = self.few;
     }

@@ -1,4 +1,4 @@
-use Rattle.std.proofs.Common.{ap, ◌∙◌, rules}
+use Rattle.std.proofs.Common.{ap, ◌∙◌, rules, arith}
 use Rattle.movement.specs.Bounds.{all_fit}
 use Rattle.movement.specs.Terms.{accounts_of}
 use Rattle.movement.proofs.Fitting.{fit_removed}
@@ -14,4 +14,5 @@ invariant_of-self c =
       bounds = ap (all_fit (accounts_of self.terms) self.kinds) c.remove.ensures.items
           ∙ fit_removed (accounts_of self.terms) self.kinds self.movements.items c.in_ok-i.i self.bounds;
       rising = rw c.remove.ensures.items (rising_removed self.highest self.movements.items c.in_ok-i.i at.within self.rising);
+      few = let fewer = c.remove.ensures.len in let before = self.few in omega arith;
     }

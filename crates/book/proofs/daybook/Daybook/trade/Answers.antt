@@ -1,4 +1,4 @@
-use Rattle.std.proofs.Common.{◌≡◌, true, [], ◌∷◌, ◌++◌, Ok, sym, ap, ◌∙◌}
+use Rattle.std.proofs.Common.{◌≡◌, true, [], ◌∷◌, ◌++◌, Ok, sym, refl, ap, ◌∙◌, arith}
 use Rattle.std.proofs.lemmas.Result.{err_from_is_err_and}
 use Rattle.fault.specs.Questions.{first_no}
 use Rattle.fault.proofs.Asking.{asked_fault, asked_value, accepted, refused, unless_none}
@@ -34,6 +34,7 @@ invariant_of-self c =
       bounds = after;
       rising = rw c.push.ensures.items
           (rising_push self.highest c.args.trade.number self.movements.items c.in_ok-movement.movement (ap (λ m. m.number) (sym same)) (trade_rises d c.args.trade passed) self.rising);
+      few = let room = c.in_ok-movement.ensures.room refl in let longer = c.push.ensures.len in omega arith;
     }
 
 pub returns : goal.returns

@@ -6,9 +6,8 @@ mod settling;
 #[cfg(test)]
 mod tests;
 
-use crate::settling::settle;
+use crate::settling::{settle, told};
 
 fn main(rt: HostRuntime) -> anyhow::Result<()> {
-    settle(rt.alloc(), &mut rt.stdin(), &mut rt.stdout())?;
-    Ok(())
+    settle(rt.alloc(), &mut rt.stdin(), &mut rt.stdout()).map_err(told)
 }

@@ -7,9 +7,9 @@ ghost use Rattle.settle.specs.Opening.{from_nothing};
 
 use crate::opening::open;
 use frames::Session;
-use std::alloc::Global;
+use std::alloc::{AllocError, Global};
 use std::io;
-use std::io::{Read, Write};
+use std::io::{ErrorKind, Read, Write};
 
 /// Answers every line of the input, by a book that is opened on day 0 with nothing on the accounts.
 pub fn settle<R: Read, W: Write>(alloc: Global, input: &mut R, output: &mut W) -> io::Result<()>
@@ -19,4 +19,14 @@ pub fn settle<R: Read, W: Write>(alloc: Global, input: &mut R, output: &mut W) -
 {
     let mut session = Session::new(open(alloc)?);
     session.serve(alloc, input, output)
+}
+
+/// The error that the program ends with. Where memory is wanting it is the allocator's, whose words
+/// are told; what the system says of a read or a write stays as it is.
+pub fn told(error: io::Error) -> anyhow::Error {
+    if error.kind() == ErrorKind::OutOfMemory && error.raw_os_error().is_none() {
+        anyhow::Error::from(AllocError)
+    } else {
+        anyhow::Error::from(error)
+    }
 }

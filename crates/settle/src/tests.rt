@@ -1,4 +1,5 @@
-use crate::settling::settle;
+use crate::settling::{settle, told};
+use std::alloc::AllocError;
 use std::io;
 use std::io::{ErrorKind, Read};
 use std::test::*;
@@ -37,5 +38,25 @@ fn answers_the_whole_lines_before_an_error(rt: HostRuntime) -> Result<(), Fail> 
     let result = settle(rt.alloc(), &mut input, &mut output);
     assert!(rt; result.is_err_and(|e| e.kind() == ErrorKind::ConnectionReset));
     assert_eq!(rt; output.as_slice(), b"00\n".as_slice());
+    Ok(())
+}
+
+#[test]
+fn tells_want_of_memory_in_the_words_of_the_allocator(rt: HostRuntime) -> Result<(), Fail> {
+    let want = told(io::Error::from(AllocError));
+    assert_eq!(rt;
+        format!(in rt.alloc(); "{want}")?.as_str(),
+        "memory allocation failed"
+    );
+    let system = told(io::Error::from_raw_os_error(12));
+    assert_eq!(rt;
+        format!(in rt.alloc(); "{system}")?.as_str(),
+        "Cannot allocate memory (os error 12)"
+    );
+    let full = told(io::Error::from_raw_os_error(28));
+    assert_eq!(rt;
+        format!(in rt.alloc(); "{full}")?.as_str(),
+        "No space left on device (os error 28)"
+    );
     Ok(())
 }

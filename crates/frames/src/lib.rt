@@ -22,4 +22,4 @@ pub use line::unhex;
 pub use partial::{MAX_KEPT, Partial};
 pub use reply::answer;
 pub use responding::respond;
-pub use session::Session;
+pub use session::{Session, feed, finish};

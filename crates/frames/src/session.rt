@@ -54,28 +54,7 @@ impl<B: Settlement> Session<B> {
         ensures chunks { ChunksAlike }
         ensures lawful { LinesLawful }
     {
-        let mut left = chunk;
-        while let Some(end) = memchr(b'\n', left) {
-            let (line, after) = left.split_at(end);
-            self.end_line(line, out)?;
-            left = &after[1..];
-        }
-        self.pending.extend(left);
-        Ok(())
-    }
-
-    // Answers the line that a part ends.
-    fn end_line(&mut self, part: &[u8], out: &mut Vec<u8>) -> Result<(), AllocError>
-        ensures answers { Ended ((characters self.old.pending ++ part.now) ∷ [])
-            (B.Settlement.state self.old.book) (B.Settlement.state self.new.book)
-            out.old out.new (is_ok result) }
-        ensures clears { OnOk result (characters self.new.pending ≡ []) }
-    {
-        if self.pending.is_empty() {
-            return respond(&mut self.book, part, out);
-        }
-        self.pending.extend(part);
-        self.finish(out)
+        feed(&mut self.book, &mut self.pending, chunk, out)
     }
 
     /// Answers the line whose end has not come, at the end of the input. An empty one is no line.
@@ -90,11 +69,7 @@ impl<B: Settlement> Session<B> {
         ensures clears { characters self.new.pending
             ≡ (if is_ok result then [] else characters self.old.pending) }
     {
-        if !self.pending.is_empty() {
-            respond(&mut self.book, self.pending.as_slice(), out)?;
-            self.pending.clear();
-        }
-        Ok(())
+        finish(&mut self.book, &mut self.pending, out)
     }
 
     /// Answers each line that a reader has, the last one too where its end does not come. Memory is
@@ -186,6 +161,78 @@ impl<B: Settlement> Session<B> {
         output.write_all(out)?;
         output.flush()
     }
+}
+
+/// Answers each line that ends in a chunk of text, and keeps what is left for the next one. Where
+/// memory is wanting, the first of the lines are answered, and nothing is said of what is kept.
+pub fn feed<B: Settlement>(
+    book: &mut B,
+    pending: &mut Partial,
+    chunk: &[u8],
+    out: &mut Vec<u8>,
+) -> Result<(), AllocError>
+    ensures feeds { Fed (characters pending.old) chunk.now
+        (B.Settlement.state book.old) (B.Settlement.state book.new)
+        out.old out.new (characters pending.new) (is_ok result) }
+
+    // It is so for each text before the chunk of which those characters are kept.
+    ensures whole { (text : List ℕ) → characters pending.old ≡ kept text → Fed text chunk.now
+        (B.Settlement.state book.old) (B.Settlement.state book.new)
+        out.old out.new (characters pending.new) (is_ok result) }
+    ensures texts { TextsAlike }
+    ensures chunks { ChunksAlike }
+    ensures lawful { LinesLawful }
+{
+    let mut left = chunk;
+    while let Some(end) = memchr(b'\n', left) {
+        let (line, after) = left.split_at(end);
+        end_line(book, pending, line, out)?;
+        left = &after[1..];
+    }
+    pending.extend(left);
+    Ok(())
+}
+
+// Answers the line that a part ends.
+fn end_line<B: Settlement>(
+    book: &mut B,
+    pending: &mut Partial,
+    part: &[u8],
+    out: &mut Vec<u8>,
+) -> Result<(), AllocError>
+    ensures answers { Ended ((characters pending.old ++ part.now) ∷ [])
+        (B.Settlement.state book.old) (B.Settlement.state book.new)
+        out.old out.new (is_ok result) }
+    ensures clears { OnOk result (characters pending.new ≡ []) }
+{
+    if pending.is_empty() {
+        return respond(book, part, out);
+    }
+    pending.extend(part);
+    finish(book, pending, out)
+}
+
+/// Answers the line whose end has not come, at the end of the input. An empty one is no line.
+pub fn finish<B: Settlement>(
+    book: &mut B,
+    pending: &mut Partial,
+    out: &mut Vec<u8>,
+) -> Result<(), AllocError>
+    ensures answers { Ended (last_line (characters pending.old))
+        (B.Settlement.state book.old) (B.Settlement.state book.new)
+        out.old out.new (is_ok result) }
+    ensures whole { (text : List ℕ) → characters pending.old ≡ kept text
+        → Ended (last_line text)
+        (B.Settlement.state book.old) (B.Settlement.state book.new)
+        out.old out.new (is_ok result) }
+    ensures clears { characters pending.new
+        ≡ (if is_ok result then [] else characters pending.old) }
+{
+    if !pending.is_empty() {
+        respond(book, pending.as_slice(), out)?;
+        pending.clear();
+    }
+    Ok(())
 }
 
 // Room for what is read at a time.

@@ -8,6 +8,10 @@ use Rattle.frames.specs.Hex.{before, byte_of, digit_value, pairs}
 abbrev pub after : List ℕ → Option (List ℕ) → Option (List ℕ)
 after front rest = option_map (λ bs. front ++ bs) rest
 
+pub after_none : (rest : Option (List ℕ)) → after [] rest ≡ rest
+after_none None = refl
+after_none (Some bs) = refl
+
 -- one more byte in front
 after_push : (bytes : List ℕ) (b : ℕ) (rest : Option (List ℕ)) → after (bytes ++ b ∷ []) rest ≡ after bytes (before (Some b) rest)
 after_push bytes b None = refl

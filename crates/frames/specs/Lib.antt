@@ -3,6 +3,7 @@ pub mod Calls
 pub mod Codes
 pub mod Frames
 pub mod Hex
+pub mod Partials
 pub mod Replies
 pub mod Sessions
 pub mod Stream

@@ -4,6 +4,7 @@
 mod bytes;
 mod code;
 mod decoding;
+mod frame;
 mod hex;
 mod line;
 mod partial;
@@ -15,9 +16,10 @@ mod writing;
 
 pub use bytes::u64_bytes;
 pub use decoding::decode;
+pub use frame::{Frame, MAX_FRAME};
 pub use hex::digit;
-pub use line::{Frame, MAX_FRAME, unhex};
+pub use line::unhex;
 pub use partial::{MAX_KEPT, Partial};
 pub use reply::answer;
 pub use responding::respond;
-pub use session::Session;
+pub use session::{Session, feed, finish};

@@ -4,14 +4,8 @@ ghost use Rattle.std.specs.Option.{option_map};
 ghost use Rattle.frames.specs.Frames.{frame_bytes};
 ghost use Rattle.frames.specs.Hex.{byte_of, digit_value, has_right_length, line_bytes, pairs, most_bytes};
 
+use crate::frame::{Frame, MAX_FRAME};
 use crate::hex::digit;
-use arrayvec::ArrayVec;
-
-/// No line says more bytes.
-pub const MAX_FRAME: usize = 38;
-
-/// The bytes of one line.
-pub type Frame = ArrayVec<u8, MAX_FRAME>;
 
 /// The bytes of a line: none where it is too short or too long, or not all digits, or their number
 /// is odd.
@@ -37,13 +31,15 @@ fn paired(line: &[u8]) -> Option<Frame>
     requires even { length line.now % 2 ≡ 0 }
     ensures { option_map frame_bytes result ≡ pairs line.now }
 {
-    let mut frame = Frame::new();
+    let mut bytes = [0; MAX_FRAME];
+    let mut len = 0;
     let mut rest = line;
     while let [high, low, after @ ..] = rest {
-        frame.push(byte(*high, *low)?);
+        bytes[len] = byte(*high, *low)?;
+        len += 1;
         rest = after;
     }
-    Some(frame)
+    Some(Frame { bytes, len })
 }
 
 // The byte of two digits.

@@ -3,7 +3,7 @@ ghost use Rattle.std.specs.Prelude.{is_ok};
 ghost use Rattle.frames.specs.Replies.{Responded};
 
 use crate::reply::answer;
-use crate::writing::{MAX_REPLY, reply_line};
+use crate::writing::{MAX_REPLY, write_answer};
 use book::Settlement;
 use std::alloc::AllocError;
 
@@ -18,7 +18,6 @@ pub fn respond<B: Settlement>(
         out.old out.new (is_ok result) }
 {
     out.reserve(MAX_REPLY)?;
-    let reply = reply_line(answer(book, line));
-    out.extend_from_slice(&reply).unwrap();
+    write_answer(out, answer(book, line));
     Ok(())
 }

@@ -1,6 +1,7 @@
 //! Lines come in chunks of text and are answered one after the other.
 ghost use Rattle.std.specs.Prelude.{◌≡◌, ℕ, List, ◌*◌, ◌<◌, ◌≤◌, [], ◌∷◌, ◌++◌, length, vec_len, vec_capacity, is_ok, if◌then◌else◌, IfOk, OnOk, IfSome};
 ghost use Rattle.std.specs.Io.KnownBytes.{Appends};
+ghost use Rattle.frames.specs.Partials.{characters};
 ghost use Rattle.frames.specs.Replies.{longest};
 ghost use Rattle.frames.specs.Sessions.{ChunksAlike, Ended, Fed, LinesLawful, Serves, TextsAlike, after_lines, answers, last_line, lines, rest};
 ghost use Rattle.frames.specs.Stream.{kept};
@@ -28,7 +29,7 @@ impl<B: Settlement> Session<B> {
     /// A session over a book, before any text.
     pub fn new(book: B) -> Session<B>
         ensures book { result.book ≡ book }
-        ensures pending { result.pending ≡ [] }
+        ensures pending { characters result.pending ≡ [] }
     {
         Session {
             book,
@@ -40,57 +41,35 @@ impl<B: Settlement> Session<B> {
     /// Where memory is wanting, the first of the lines are answered, and nothing is said of what is
     /// kept.
     pub fn feed(&mut self, chunk: &[u8], out: &mut Vec<u8>) -> Result<(), AllocError>
-        ensures feeds { Fed self.old.pending chunk.now
+        ensures feeds { Fed (characters self.old.pending) chunk.now
             (B.Settlement.state self.old.book) (B.Settlement.state self.new.book)
-            out.old out.new self.new.pending (is_ok result) }
+            out.old out.new (characters self.new.pending) (is_ok result) }
 
         // It is so for each text before the chunk of which those characters are kept.
-        ensures whole { (text : List ℕ) → self.old.pending ≡ kept text → Fed text chunk.now
+        ensures whole { (text : List ℕ) → characters self.old.pending ≡ kept text
+            → Fed text chunk.now
             (B.Settlement.state self.old.book) (B.Settlement.state self.new.book)
-            out.old out.new self.new.pending (is_ok result) }
+            out.old out.new (characters self.new.pending) (is_ok result) }
         ensures texts { TextsAlike }
         ensures chunks { ChunksAlike }
         ensures lawful { LinesLawful }
     {
-        let mut left = chunk;
-        while let Some(end) = memchr(b'\n', left) {
-            let (line, after) = left.split_at(end);
-            self.end_line(line, out)?;
-            left = &after[1..];
-        }
-        self.pending.extend(left);
-        Ok(())
-    }
-
-    // Answers the line that a part ends.
-    fn end_line(&mut self, part: &[u8], out: &mut Vec<u8>) -> Result<(), AllocError>
-        ensures answers { Ended ((self.old.pending ++ part.now) ∷ [])
-            (B.Settlement.state self.old.book) (B.Settlement.state self.new.book)
-            out.old out.new (is_ok result) }
-        ensures clears { OnOk result (self.new.pending ≡ []) }
-    {
-        if self.pending.is_empty() {
-            return respond(&mut self.book, part, out);
-        }
-        self.pending.extend(part);
-        self.finish(out)
+        feed(&mut self.book, &mut self.pending, chunk, out)
     }
 
     /// Answers the line whose end has not come, at the end of the input. An empty one is no line.
     pub fn finish(&mut self, out: &mut Vec<u8>) -> Result<(), AllocError>
-        ensures answers { Ended (last_line self.old.pending)
+        ensures answers { Ended (last_line (characters self.old.pending))
             (B.Settlement.state self.old.book) (B.Settlement.state self.new.book)
             out.old out.new (is_ok result) }
-        ensures whole { (text : List ℕ) → self.old.pending ≡ kept text → Ended (last_line text)
+        ensures whole { (text : List ℕ) → characters self.old.pending ≡ kept text
+            → Ended (last_line text)
             (B.Settlement.state self.old.book) (B.Settlement.state self.new.book)
             out.old out.new (is_ok result) }
-        ensures clears { self.new.pending ≡ (if is_ok result then [] else self.old.pending) }
+        ensures clears { characters self.new.pending
+            ≡ (if is_ok result then [] else characters self.old.pending) }
     {
-        if !self.pending.is_empty() {
-            respond(&mut self.book, self.pending.as_slice(), out)?;
-            self.pending.clear();
-        }
-        Ok(())
+        finish(&mut self.book, &mut self.pending, out)
     }
 
     /// Answers each line that a reader has, the last one too where its end does not come. Memory is
@@ -102,7 +81,8 @@ impl<B: Settlement> Session<B> {
         input: &mut R,
         output: &mut W,
     ) -> io::Result<()>
-        ensures { OnOk result (IfSome (R.remaining input.old) (λ text. Serves self.old.pending text
+        ensures { OnOk result (IfSome (R.remaining input.old) (λ text.
+            Serves (characters self.old.pending) text
             (B.Settlement.state self.old.book) (B.Settlement.state self.new.book)
             (W.contents output.old) (W.contents output.new))) }
     {
@@ -123,7 +103,8 @@ impl<B: Settlement> Session<B> {
     ) -> io::Result<()>
         requires some { 0 < length chunk.old }
         requires room { longest * length chunk.old ≤ vec_capacity out.old }
-        ensures { OnOk result (IfSome (R.remaining input.old) (λ text. Serves self.old.pending text
+        ensures { OnOk result (IfSome (R.remaining input.old) (λ text.
+            Serves (characters self.old.pending) text
             (B.Settlement.state self.old.book) (B.Settlement.state self.new.book)
             (W.contents output.old) (W.contents output.new))) }
     {
@@ -150,10 +131,13 @@ impl<B: Settlement> Session<B> {
     ) -> io::Result<()>
         requires { longest * length chunk.now ≤ vec_capacity out.old }
         ensures written { OnOk result (Appends (W.contents output.old) (W.contents output.new)
-            (answers (B.Settlement.state self.old.book) (lines self.old.pending chunk.now))) }
+            (answers (B.Settlement.state self.old.book)
+            (lines (characters self.old.pending) chunk.now))) }
         ensures becomes { B.Settlement.state self.new.book
-            ≡ after_lines (B.Settlement.state self.old.book) (lines self.old.pending chunk.now) }
-        ensures keeps { self.new.pending ≡ kept (rest self.old.pending chunk.now) }
+            ≡ after_lines (B.Settlement.state self.old.book)
+            (lines (characters self.old.pending) chunk.now) }
+        ensures keeps { characters self.new.pending
+            ≡ kept (rest (characters self.old.pending) chunk.now) }
         ensures room { vec_capacity out.old ≤ vec_capacity out.new }
     {
         out.clear();
@@ -166,15 +150,89 @@ impl<B: Settlement> Session<B> {
     fn answer_last<W: Write>(&mut self, out: &mut Vec<u8>, output: &mut W) -> io::Result<()>
         requires { longest ≤ vec_capacity out.old }
         ensures written { OnOk result (Appends (W.contents output.old) (W.contents output.new)
-            (answers (B.Settlement.state self.old.book) (last_line self.old.pending))) }
+            (answers (B.Settlement.state self.old.book)
+            (last_line (characters self.old.pending)))) }
         ensures becomes { B.Settlement.state self.new.book
-            ≡ after_lines (B.Settlement.state self.old.book) (last_line self.old.pending) }
+            ≡ after_lines (B.Settlement.state self.old.book)
+            (last_line (characters self.old.pending)) }
     {
         out.clear();
         self.finish(out).unwrap();
         output.write_all(out)?;
         output.flush()
     }
+}
+
+/// Answers each line that ends in a chunk of text, and keeps what is left for the next one. Where
+/// memory is wanting, the first of the lines are answered, and nothing is said of what is kept.
+pub fn feed<B: Settlement>(
+    book: &mut B,
+    pending: &mut Partial,
+    chunk: &[u8],
+    out: &mut Vec<u8>,
+) -> Result<(), AllocError>
+    ensures feeds { Fed (characters pending.old) chunk.now
+        (B.Settlement.state book.old) (B.Settlement.state book.new)
+        out.old out.new (characters pending.new) (is_ok result) }
+
+    // It is so for each text before the chunk of which those characters are kept.
+    ensures whole { (text : List ℕ) → characters pending.old ≡ kept text → Fed text chunk.now
+        (B.Settlement.state book.old) (B.Settlement.state book.new)
+        out.old out.new (characters pending.new) (is_ok result) }
+    ensures texts { TextsAlike }
+    ensures chunks { ChunksAlike }
+    ensures lawful { LinesLawful }
+{
+    let mut left = chunk;
+    while let Some(end) = memchr(b'\n', left) {
+        let (line, after) = left.split_at(end);
+        end_line(book, pending, line, out)?;
+        left = &after[1..];
+    }
+    pending.extend(left);
+    Ok(())
+}
+
+// Answers the line that a part ends.
+fn end_line<B: Settlement>(
+    book: &mut B,
+    pending: &mut Partial,
+    part: &[u8],
+    out: &mut Vec<u8>,
+) -> Result<(), AllocError>
+    ensures answers { Ended ((characters pending.old ++ part.now) ∷ [])
+        (B.Settlement.state book.old) (B.Settlement.state book.new)
+        out.old out.new (is_ok result) }
+    ensures clears { OnOk result (characters pending.new ≡ []) }
+{
+    if pending.is_empty() {
+        return respond(book, part, out);
+    }
+    pending.extend(part);
+    finish(book, pending, out)
+}
+
+/// Answers the line whose end has not come, at the end of the input. An empty one is no line.
+pub fn finish<B: Settlement>(
+    book: &mut B,
+    pending: &mut Partial,
+    out: &mut Vec<u8>,
+) -> Result<(), AllocError>
+    ensures answers { Ended (last_line (characters pending.old))
+        (B.Settlement.state book.old) (B.Settlement.state book.new)
+        out.old out.new (is_ok result) }
+    ensures whole { (text : List ℕ) → characters pending.old ≡ kept text
+        → Ended (last_line text)
+        (B.Settlement.state book.old) (B.Settlement.state book.new)
+        out.old out.new (is_ok result) }
+    ensures clears { characters pending.new
+        ≡ (if is_ok result then [] else characters pending.old) }
+{
+    if !pending.is_empty() {
+        respond(book, pending.as_slice(), out)?;
+        pending.clear();
+    }
+    Ok(())
 }
 
 // Room for what is read at a time.

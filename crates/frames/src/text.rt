@@ -1,20 +1,29 @@
 //! Bytes are written as hexadecimal digits.
-ghost use Rattle.std.specs.Prelude.{◌≡◌, ◌+◌, ◌*◌, ◌<◌, ◌≤◌, ◌++◌, length};
-ghost use Rattle.arrayvec.specs.ArrayVec.{array_vec_len};
+ghost use Rattle.std.specs.Prelude.{◌≡◌, ◌+◌, ◌*◌, ◌<◌, ◌≤◌, ◌++◌, length, vec_len, vec_capacity};
 ghost use Rattle.frames.specs.Hex.{RoundTrip, hex_of, hex_text, letter_of};
 
-use arrayvec::ArrayVec;
-
-// Appends two capital digits for each byte.
-pub(crate) fn write_hex<const CAP: usize>(line: &mut ArrayVec<u8, CAP>, bytes: &[u8])
-    requires { array_vec_len line.old + 2 * length bytes.now ≤ CAP }
-    ensures items { line.new.items ≡ line.old.items ++ hex_text bytes.now }
+// Appends two capital digits for each byte, where there is room for them.
+pub(crate) fn write_hex(out: &mut Vec<u8>, bytes: &[u8])
+    requires { vec_len out.old + 2 * length bytes.now ≤ vec_capacity out.old }
+    ensures items { out.new.items ≡ out.old.items ++ hex_text bytes.now }
+    ensures len { vec_len out.new ≡ vec_len out.old + 2 * length bytes.now }
+    ensures capacity { vec_capacity out.new ≡ vec_capacity out.old }
     ensures round_trip { RoundTrip }
 {
     for b in bytes {
-        line.push(letter(*b / 16));
-        line.push(letter(*b % 16));
+        push_byte(out, *b);
     }
+}
+
+// The two digits of a byte, where there is room for them.
+fn push_byte(out: &mut Vec<u8>, b: u8)
+    requires { vec_len out.old + 2 ≤ vec_capacity out.old }
+    ensures items { out.new.items ≡ out.old.items ++ hex_of b }
+    ensures len { vec_len out.new ≡ vec_len out.old + 2 }
+    ensures capacity { vec_capacity out.new ≡ vec_capacity out.old }
+{
+    out.push_reserved(letter(b / 16));
+    out.push_reserved(letter(b % 16));
 }
 
 // The digit of a number below 16.

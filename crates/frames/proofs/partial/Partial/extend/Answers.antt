@@ -1,15 +1,11 @@
-use Rattle.std.proofs.Common.{◌≡◌, ◌++◌, take}
-use Rattle.std.proofs.lemmas.Result.{IfOk-at_ok}
-use Rattle.frames.specs.Stream.{kept}
+use Rattle.std.proofs.Common.{rules}
 use Rattle.frames.proofs.Streams.{cut_alike, fitting}
 use Rattle.frames.proofs.partial.Partial.extend.Goals as goal
 
 pub returns : goal.returns
 returns c =
-    let text = c.self.inside.characters.items in
-    let part = c.args.part.now in
-    let put = IfOk-at_ok _ c.unwrap.ensures c.try_extend_from_slice.ensures.ok in
-    let all : text ++ take c.min-count.result part ≡ kept (text ++ part) =
-    fitting 77 c.remaining_capacity.result _ text part c.remaining_capacity.ensures c.min-count.ensures in
-    let view = c.self.view_is in
-    record { keeps = cc; same = cut_alike }
+    let put = c.copy_from_slice.new.self in
+    record {
+      keeps = fitting _ c.args.part.now put _ c.fitting-count.result _ 77 (search rules) (search rules) c.fitting-count.ensures (search rules);
+      same = cut_alike;
+    }

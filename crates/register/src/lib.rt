@@ -8,6 +8,8 @@ pub mod joined;
 pub mod refusal;
 mod register;
 pub mod row_register;
+pub mod table;
+pub mod turnover;
 
 pub use cell::Cell;
 pub use columns::{COLUMN_LIMIT, Columns};

@@ -12,7 +12,7 @@ use Rattle.history.specs.declared.call.Answer.{Answer}
 use Rattle.history.specs.History.{Event, event}
 use Rattle.history.specs.Statement.{Statement, read_call}
 use Rattle.history.specs.Law.{over, traded_by, cancelled_by}
-use Rattle.history.proofs.Numbers.{count, count_push, count_changed, changed_here, changed_there, counts_same, count_left, left_other, found_counts, none_counted, pushed_found, pushed_new}
+use Rattle.history.proofs.Numbers.{count, count_push, count_changed, changed_here, changed_there, counts_same, counts_other, count_left, count_left_other, left_other, found_counts, none_counted, pushed_found, pushed_new}
 
 -- what the movements d on the book, the history h and the statement t have to do with one another
 pub record Counted (h : List Event) (d : Daily) (t : Statement) : Type 0 where
@@ -75,7 +75,18 @@ module _ (h : List Event) (d : Daily) (t : Statement) (c : Counted h d t) where
   -- a cancel: the movement leaves the book, its note stays
   pub cancelled_counted : (k : ℕ) (v : Answer) (x : Movement) → on_book k d.movements ≡ Some x → Counted (event (Cancel k) (Ok v) ∷ h) (cancelled d k) t
   cancelled_counted k v x found = record {
-    counts = λ n. let before = c.counts n in let left = count_left k d.movements x found n in omega arith;
+    counts = λ n.
+        ⊎_elim
+        (λ (q : n ≡ k).
+        let before = c.counts n in
+        let left = count_left k d.movements x found n in
+        omega arith)
+        (λ (q : n ≡ k → ⊥).
+        let before = c.counts n in
+        let left = count_left_other n k d.movements q in
+        let none = counts_other k n (λ (p : k ≡ n). q (sym p)) in
+        omega arith)
+        (cases_eq n k);
     fresh = λ n above. let before = c.fresh n above in omega arith;
     once = λ n. let before = c.once n in omega arith;
     recorded = λ n. let before = c.recorded n in omega arith;
@@ -88,7 +99,7 @@ module _ (h : List Event) (d : Daily) (t : Statement) (c : Counted h d t) where
         let before = c.counts n in
         let single = c.once n in
         absurd (omega arith))
-        (λ (q : n ≡ k → ⊥). c.noted n m (sym (left_other k d.movements x found n q) ∙ e))
+        (λ (q : n ≡ k → ⊥). c.noted n m (sym (left_other n k d.movements q) ∙ e))
         (cases_eq n k);
     terms = c.terms;
     half = c.half;

@@ -1,10 +1,10 @@
 -- How often a number stands in a list of movements, and which movement it finds there.
-use Rattle.std.proofs.Common.{◌≡◌, ℕ, suc, ◌+◌, ◌<◌, ◌≤◌, false, cond, eqb, List, [], ◌∷◌, ◌++◌, length, get_or, set, take, drop, is_some, Some, None, Option, sym, refl, ap, ◌∙◌, ⊎_elim, add-one, arith}
+use Rattle.std.proofs.Common.{◌≡◌, ℕ, suc, ◌+◌, ◌<◌, ◌≤◌, Bool, true, false, not, cond, eqb, List, [], ◌∷◌, ◌++◌, length, get_or, set, take, drop, is_some, Some, None, Option, sym, refl, ap, ◌∙◌, ⊎_elim, add-one, arith}
 use Rattle.std.proofs.lemmas.Bool.{cases_eq, eqb-true, eq-eqb, ne_eqb}
 use Rattle.std.proofs.lemmas.List.Folds.{find_at, find-set, find_past, find-append}
 use Rattle.std.proofs.lemmas.List.Sums.{sum_by-cons, sum_by_push, sum_by-set, sum_by-remove, passes_at_first, split_at_first}
 use Rattle.std.proofs.lemmas.Option.{get_or_from_slice_get, slice_get_within, none-some}
-use Rattle.std.specs.List.{count_by, find, slice_get}
+use Rattle.std.specs.List.{count_by, find, remove, slice_get}
 use Rattle.std.specs.Option.{option_map, option_map_or, option_or}
 use Rattle.movement.specs.declared.movement.Movement.{Movement}
 use Rattle.book.specs.Daily.{has_number, on_book, place_of, without, changed_at}
@@ -96,8 +96,8 @@ module _ (n : ℕ) (ms : List Movement) (x : Movement) (found : on_book n ms ≡
   pub found_counts : 1 ≤ count n ms
   found_counts = let left = count_left n in let here = counts_same n n refl in omega arith
 
-  pub left_other : (k : ℕ) → (k ≡ n → ⊥) → on_book k (without n ms) ≡ on_book k ms
-  left_other k other =
+  found_left_other : (k : ℕ) → (k ≡ n → ⊥) → on_book k (without n ms) ≡ on_book k ms
+  found_left_other k other =
       let at = stands n ms x found in
       let i = place_of n ms in
       let skips : has_number k (get_or ms i x) ≡ false =
@@ -109,6 +109,33 @@ module _ (n : ℕ) (ms : List Movement) (x : Movement) (found : on_book n ms ≡
       (ap (find (has_number k)) (split_at_first (has_number n) ms x at.within)
       ∙ parts
       ∙ ap (λ b. option_or (find (has_number k) (take i ms)) (cond b (Some (get_or ms i x)) (find (has_number k) (drop (i + 1) ms)))) skips)
+
+-- a number that is not on the book leaves every movement there
+without_absent : (n : ℕ) (ms : List Movement) → on_book n ms ≡ None → without n ms ≡ ms
+without_absent n [] none = refl
+without_absent n (m ∷ ms) none = by (eqb m.number n) (without_absent n ms) none
+  where
+    by : (b : Bool) → (on_book n ms ≡ None → without n ms ≡ ms) → cond b (Some m) (on_book n ms) ≡ None → remove (m ∷ ms) (cond (not b) (1 + place_of n ms) 0) ≡ m ∷ ms
+    by true rest q = absurd (none-some m (sym q))
+    by false rest q =
+        let next : 1 + place_of n ms ≡ suc (place_of n ms) = omega arith in
+        ap (remove (m ∷ ms)) next ∙ ap (λ xs. m ∷ xs) (rest q)
+
+-- a number that leaves, on the book or not, takes no movement of another
+pub count_left_other : (k n : ℕ) (ms : List Movement) → (k ≡ n → ⊥) → count k (without n ms) ≡ count k ms
+count_left_other k n ms other =
+    by_found (λ o. count k (without n ms) ≡ count k ms) n ms
+    (λ none. ap (count k) (without_absent n ms none))
+    (λ x found.
+    let left = count_left n ms x found k in
+    let none = counts_other n k (λ (q : n ≡ k). other (sym q)) in
+    omega arith)
+
+pub left_other : (k n : ℕ) (ms : List Movement) → (k ≡ n → ⊥) → on_book k (without n ms) ≡ on_book k ms
+left_other k n ms other =
+    by_found (λ o. on_book k (without n ms) ≡ on_book k ms) n ms
+    (λ none. ap (on_book k) (without_absent n ms none))
+    (λ x found. found_left_other n ms x found k other)
 
 pub none_counted : (n : ℕ) (ms : List Movement) → count n ms ≡ 0 → on_book n ms ≡ None
 none_counted n ms zero_counted =

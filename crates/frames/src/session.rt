@@ -72,9 +72,9 @@ impl<B: Settlement> Session<B> {
         finish(&mut self.book, &mut self.pending, out)
     }
 
-    /// Answers each line that a reader has, the last one too where its end does not come. Memory is
-    /// wanted before anything is read, and not after that. After an error some of what was read may
-    /// be answered and its answers not written.
+    /// Answers each line that a reader has, the last one too where its end does not come. It asks
+    /// for memory before it reads; the answers after that have room. After an error some of what
+    /// was read may be answered and its answers not written.
     pub fn serve<R: Read, W: Write>(
         &mut self,
         alloc: Global,

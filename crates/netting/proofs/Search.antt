@@ -13,11 +13,11 @@ first_known passes zero = λ j h. absurd (omega arith)
 first_known passes (suc n) = first_more passes n (first_below n passes) (passes n) refl (first_known passes n)
 
 -- no other is found
-first_same : (passes : ℕ → Bool) (n : ℕ) (a b : Option ℕ) → FindsFirst n passes a → FindsFirst n passes b → a ≡ b
-first_same passes n None None x y = refl
-first_same passes n None (Some j) x y = absurd (both_ways _ (x j y.0) y.1)
-first_same passes n (Some i) None x y = absurd (both_ways _ (y i x.0) x.1)
-first_same passes n (Some i) (Some j) x y =
+first_unique : (passes : ℕ → Bool) (n : ℕ) (a b : Option ℕ) → FindsFirst n passes a → FindsFirst n passes b → a ≡ b
+first_unique passes n None None x y = refl
+first_unique passes n None (Some j) x y = absurd (both_ways _ (x j y.0) y.1)
+first_unique passes n (Some i) None x y = absurd (both_ways _ (y i x.0) x.1)
+first_unique passes n (Some i) (Some j) x y =
     ⊎_elim
     (λ (q : i ≡ j). ap Some q)
     (λ (q : i ≡ j → ⊥). ⊎_elim (λ (l : i < j). absurd (both_ways _ (y.2 i l) x.1)) (λ (l : j ≤ i). absurd (both_ways _ (x.2 j (omega arith)) y.1)) (cases_lt i j))
@@ -29,7 +29,12 @@ finds_first passes m n None none e = λ k h. none k (omega arith) (omega arith)
 finds_first passes m n (Some i) some e = let below = some.1 in (omega arith, some.2, λ k h. some.3 k (omega arith) h)
 
 pub first_found : (passes : ℕ → Bool) (n : ℕ) (found : Option ℕ) → FindsFirst n passes found → first_below n passes ≡ found
-first_found passes n found finds = first_same passes n _ found (first_known passes n) finds
+first_found passes n found finds = first_unique passes n _ found (first_known passes n) finds
+
+-- two tests with the same answers
+pub first_same : (passes other : ℕ → Bool) (n : ℕ) → ((i : ℕ) → i < n → passes i ≡ other i) → first_below n passes ≡ first_below n other
+first_same passes other zero same = refl
+first_same passes other (suc n) same = rw (first_same passes other n (λ i h. same i (omega arith)), same n (omega arith))
 
 -- the same where something is known to be found, or not
 pub first_some : (passes : ℕ → Bool) (n i : ℕ) → first_below n passes ≡ Some i → FindsFirst n passes (Some i)

@@ -6,6 +6,7 @@ ghost use Rattle.register.specs.SignedRow.{counted, counted_after, IsAmount};
 ghost use Rattle.std.proofs.Common.{rules};
 
 use crate::entry::Entry;
+use crate::refusal::Refusal;
 use crate::register::LIMIT;
 
 /// What a register asks of its rows, whatever a row looks like.
@@ -27,6 +28,13 @@ pub trait Cell: Copy {
     /// What the row counts as.
     fn amount(&self) -> u64
         ensures { result ≡ amount self.now };
+
+    /// Refuses an entry for which there is no room.
+    fn ask_room(&self, entry: Entry) -> Result<(), Refusal>
+        ensures { result ≡ room_for (amount self.now) entry }
+    {
+        entry.ask_room(self.amount())
+    }
 
     /// The row after an entry for which there is room.
     fn with_entry(self, entry: Entry) -> Self

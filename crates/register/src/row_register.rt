@@ -136,7 +136,7 @@ impl<X: Cell> Register for RowRegister<X> {
     {
         let place = self.locate(kind, account)?;
         let row = self.rows[place];
-        entry.ask_room(row.amount())?;
+        row.ask_room(entry)?;
         self.rows[place] = row.with_entry(entry);
         Ok(())
     }

@@ -21,8 +21,8 @@ pub fn settle<R: Read, W: Write>(alloc: Global, input: &mut R, output: &mut W) -
     session.serve(alloc, input, output)
 }
 
-/// The error that the program ends with. Where memory is wanting it is the allocator's, whose words
-/// are told; what the system says of a read or a write stays as it is.
+/// The error that the program ends with: the allocator's where memory is wanting, and else what the
+/// system said of a read or a write.
 pub fn told(error: io::Error) -> anyhow::Error {
     if error.kind() == ErrorKind::OutOfMemory && error.raw_os_error().is_none() {
         anyhow::Error::from(AllocError)
